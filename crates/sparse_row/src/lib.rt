@@ -1,0 +1,2 @@
+//! Rows: finite maps from integrals to residues.
+#![tactic(auto)]
