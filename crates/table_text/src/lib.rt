@@ -1,0 +1,6 @@
+//! The text of a table, and its sending.
+#![tactic(auto)]
+
+mod sending;
+
+pub use sending::{WriteFault, send, write_all};
