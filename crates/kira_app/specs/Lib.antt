@@ -1,0 +1,4 @@
+pub mod Words
+pub mod ShownWords
+pub mod Message
+pub mod TadpoleFiles

@@ -1,0 +1,21 @@
+-- The exit status and the message of each status. The project's own.
+use Rattle.std.specs.Prelude.{ℕ, List, [], ◌++◌, codes, decimal}
+use Rattle.kira_app.specs.declared.status.Status.{Status}
+use Rattle.kira_app.specs.declared.status.Status.TheVariants.{Ok, NotYet, Composite, ReadFault, WriteFault, OutOfMemory}
+
+abbrev pub exit_code_of : Status → ℕ
+exit_code_of Ok = 0
+exit_code_of (Composite fault) = 5
+exit_code_of ReadFault = 7
+exit_code_of WriteFault = 9
+exit_code_of OutOfMemory = 14
+exit_code_of NotYet = 21
+
+-- the line that is written to the error stream; Ok has none
+abbrev pub message_text : Status → List ℕ
+message_text Ok = []
+message_text (Composite fault) = codes "kira: the prime is divisible by " ++ (decimal fault.divisor ++ codes "\n")
+message_text ReadFault = codes "kira: reading failed\n"
+message_text WriteFault = codes "kira: writing failed\n"
+message_text OutOfMemory = codes "kira: out of memory\n"
+message_text NotYet = codes "kira: not yet\n"
