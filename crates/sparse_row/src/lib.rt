@@ -191,6 +191,6 @@ impl Row {
     pub fn equals(&self, other: &Row) -> bool
         ensures { IsTrue result ↔ (self.now ≡ other.now) }
     {
-        self.order == other.order && terms::equal(&self.terms, &other.terms)
+        self.order == other.order && terms::equal(self.order, &self.terms, &other.terms)
     }
 }

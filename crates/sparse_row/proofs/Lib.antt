@@ -1,0 +1,4 @@
+pub mod RowValues
+pub mod TermEdits
+pub mod TermLists
+pub mod TermMerge
