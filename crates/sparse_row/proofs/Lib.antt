@@ -2,3 +2,4 @@ pub mod RowValues
 pub mod TermEdits
 pub mod TermLists
 pub mod TermMerge
+pub mod TermScale

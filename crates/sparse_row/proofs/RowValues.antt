@@ -29,13 +29,13 @@ pub IsTerms-from_list : (p : ℕ) (order : Order) (ts : List Term) → IsTermLis
 IsTerms-from_list p order ts list below = record {
   descend = Descends-from_pairs order ts list.descend;
   no_zero = recursion_from_All (λ t. t.coefficient ≢ 0) ts list.no_zero;
-  below = recursion_from_All (λ t. t.coefficient < p) ts below
+  below = recursion_from_All (λ t. t.coefficient < p) ts below;
 }
 
 pub list_from_IsTerms : (p : ℕ) (order : Order) (ts : List Term) → IsTerms p order ts → IsTermList order ts
 list_from_IsTerms p order ts h = record {
   descend = pairs_from_Descends order ts h.descend;
-  no_zero = All-from_recursion (λ t. t.coefficient ≢ 0) ts h.no_zero
+  no_zero = All-from_recursion (λ t. t.coefficient ≢ 0) ts h.no_zero;
 }
 
 pub below_from_IsTerms : (p : ℕ) (order : Order) (ts : List Term) → IsTerms p order ts → AllBelow p ts
@@ -81,7 +81,7 @@ SameTotals ts us = (x : Integral) → total_at x ts ≡ total_at x us
 same_heads : (order : Order) (t u : Term) (ts us : List Term) → t.integral ≡ u.integral → Descends order (t ∷ ts) → Descends order (u ∷ us) → SameTotals (t ∷ ts) (u ∷ us) → t ≡ u
 same_heads order t u ts us e h g same =
     let c : t.coefficient ≡ u.coefficient =
-      sym (total_at-head order t ts h) ∙ same t.integral ∙ ap (λ x. total_at x (u ∷ us)) e ∙ total_at-head order u us g in
+    sym (total_at-head order t ts h) ∙ same t.integral ∙ ap (λ x. total_at x (u ∷ us)) e ∙ total_at-head order u us g in
     λ i. record { integral = e i; coefficient = c i }
 
 same_rests : (t u : Term) (ts us : List Term) → t ≡ u → SameTotals (t ∷ ts) (u ∷ us) → SameTotals ts us
@@ -124,12 +124,12 @@ coefficient-find : (order : Order) (x : Integral) (ts : List Term) → Descends 
 coefficient-find order x [] h = refl
 coefficient-find order x (t ∷ ts) h = by_integrals x t.integral
     (λ same.
-      ap (λ o. unwrap_or o 0) (find-like x t (finite.find by_fields x (map entry_of ts)) same)
-      ∙ sym (ap (λ y. total_at y (t ∷ ts)) same ∙ total_at-head order t ts h))
+    ap (λ o. unwrap_or o 0) (find-like x t (finite.find by_fields x (map entry_of ts)) same)
+    ∙ sym (ap (λ y. total_at y (t ∷ ts)) same ∙ total_at-head order t ts h))
     (λ other.
-      ap (λ o. unwrap_or o 0) (find-unlike x t (finite.find by_fields x (map entry_of ts)) other)
-      ∙ coefficient-find order x ts h.1
-      ∙ sym (total_at-cons x t ts ∙ ap (λ n. n + total_at x ts) (coefficient_at-other x t other) ∙ zero-add _))
+    ap (λ o. unwrap_or o 0) (find-unlike x t (finite.find by_fields x (map entry_of ts)) other)
+    ∙ coefficient-find order x ts h.1
+    ∙ sym (total_at-cons x t ts ∙ ap (λ n. n + total_at x ts) (coefficient_at-other x t other) ∙ zero-add _))
 
 -- the coefficient in the row is the total of the terms
 pub coefficient-row_of : (order : Order) (ts : List Term) → Descends order ts → (x : Integral) → coefficient (row_of order ts) x ≡ total_at x ts
@@ -149,7 +149,7 @@ pub IsRow-row_of : (p : ℕ) (order : Order) (ts : List Term) → 0 < p → IsTe
 IsRow-row_of p order ts positive h = record {
   ordered = refl;
   below = λ x. let e = coefficient-row_of order ts h.descend x in omega (arith, total_at-below p order x ts positive h.descend h.below);
-  no_zero = no_zero-row_of order ts h.no_zero
+  no_zero = no_zero-row_of order ts h.no_zero;
 }
 
 -- the terms of a row of residues are residues
@@ -157,9 +157,9 @@ pub IsTerms-from_row : (p : ℕ) (order : Order) (ts : List Term) → IsTermList
 IsTerms-from_row p order ts list below =
     let descend = Descends-from_pairs order ts list.descend in
     IsTerms-from_list p order ts list (λ k d within.
-      let e = total_at-place order ts k d within descend in
-      let f = coefficient-row_of order ts descend (get_or ts k d).integral in
-      omega (arith, below (get_or ts k d).integral))
+    let e = total_at-place order ts k d within descend in
+    let f = coefficient-row_of order ts descend (get_or ts k d).integral in
+    omega (arith, below (get_or ts k d).integral))
 
 pub IsEmpty-row_of : (order : Order) → IsEmpty (row_of order [])
 IsEmpty-row_of order x = coefficient-row_of order [] tt x
@@ -170,7 +170,7 @@ IsGreatest-head order t ts list =
     let descend = Descends-from_pairs order (t ∷ ts) list.descend in
     record {
       shown = λ e. list.no_zero 0 t (omega arith) (sym (total_at-head order t ts descend) ∙ sym (coefficient-row_of order (t ∷ ts) descend t.integral) ∙ e);
-      greatest = λ y shows above. shows (coefficient-row_of order (t ∷ ts) descend y ∙ total_at-above_head order y t ts descend above)
+      greatest = λ y shows above. shows (coefficient-row_of order (t ∷ ts) descend y ∙ total_at-above_head order y t ts descend above);
     }
 
 -- ---- rows
@@ -195,12 +195,25 @@ pub same_row : (p : ℕ) (order : Order) (row other : Row) → IsRow p order row
 same_row p order row other h g same =
     let orders : row.order ≡ other.order = h.ordered ∙ sym g.ordered in
     let maps : row.terms ≡ other.terms =
-      finite.same_map by_fields-total by_fields-IsAntisymmetric row.terms other.terms (λ x. same_options _ _ (h.no_zero x) (g.no_zero x) (same x)) in
+    finite.same_map by_fields-total by_fields-IsAntisymmetric row.terms other.terms (λ x. same_options _ _ (h.no_zero x) (g.no_zero x) (same x)) in
     λ i. record { order = orders i; terms = maps i }
 
 -- one row has one list of terms
 pub terms_of_row : (order : Order) (ts us : List Term) → IsTermList order ts → IsTermList order us → row_of order ts ≡ row_of order us → ts ≡ us
 terms_of_row order ts us left right same =
     same_terms order ts us left right (λ x.
-      sym (coefficient-row_of order ts (Descends-from_pairs order ts left.descend) x)
-      ∙ ap (λ row. coefficient row x) same ∙ coefficient-row_of order us (Descends-from_pairs order us right.descend) x)
+    sym (coefficient-row_of order ts (Descends-from_pairs order ts left.descend) x)
+    ∙ ap (λ row. coefficient row x) same ∙ coefficient-row_of order us (Descends-from_pairs order us right.descend) x)
+
+-- ---- a row by the terms that it is kept as
+
+pub below_of_row : (p : ℕ) (order other : Order) (ts : List Term) (row : Row) → row_of order ts ≡ row → IsTermList order ts → IsRow p other row → AllBelow p ts
+below_of_row p order other ts row is list h =
+    let below : (x : Integral) → coefficient (row_of order ts) x < p = subst (λ r. (x : Integral) → coefficient r x < p) (sym is) h.below in
+    below_from_IsTerms p order ts (IsTerms-from_row p order ts list below)
+
+pub coefficient_of_list : (order : Order) (ts : List Term) → IsTermList order ts → (x : Integral) → coefficient (row_of order ts) x ≡ total_at x ts
+coefficient_of_list order ts list = coefficient-row_of order ts (Descends-from_pairs order ts list.descend)
+
+pub row_of_list : (p : ℕ) (order : Order) (ts : List Term) → 0 < p → IsTermList order ts → AllBelow p ts → IsRow p order (row_of order ts)
+row_of_list p order ts positive list below = IsRow-row_of p order ts positive (IsTerms-from_list p order ts list below)

@@ -21,9 +21,10 @@ Under order t u = compare order t.integral u.integral ≡ Greater
 Descends-put : (order : Order) (ts : List Term) (t u : Term) (us : List Term) → u.integral ≡ t.integral → Descends order (ts ++ t ∷ us) → Descends order (ts ++ u ∷ us)
 Descends-put order [] t u us e h = (subst (λ x. AllUnder order x us) (sym e) h.0, h.1)
 Descends-put order (s ∷ ts) t u us e h =
-    let rest = each-back (Under order s) ts (t ∷ us) h.0 in
-    (each-append (Under order s) ts (u ∷ us) (each-front (Under order s) ts (t ∷ us) h.0) (subst (λ x. compare order s.integral x ≡ Greater) (sym e) rest.0, rest.1),
-     Descends-put order ts t u us e h.1)
+    let rest = each-back (Under order s) ts (t ∷ us) h.0 in (
+      each-append (Under order s) ts (u ∷ us) (each-front (Under order s) ts (t ∷ us) h.0) (subst (λ x. compare order s.integral x ≡ Greater) (sym e) rest.0, rest.1),
+      Descends-put order ts t u us e h.1,
+    )
 
 -- the sum over a list around one of its terms
 total_at-around : (x : Integral) (ts : List Term) (t : Term) (us : List Term) → total_at x (ts ++ t ∷ us) ≡ coefficient_at x t + total_at x (ts ++ us)
@@ -58,7 +59,7 @@ module _ (order : Order) (ts : List Term) (k : ℕ) (t : Term) (list : IsTermLis
     pub IsTermList-put : u.coefficient ≢ 0 → IsTermList order (set ts k u)
     IsTermList-put nonzero = record {
       descend = pairs_from_Descends order (set ts k u) (subst (Descends order) (sym (set_split ts k u within)) descends_put);
-      no_zero = All-set (λ term. term.coefficient ≢ 0) ts k u nonzero list.no_zero
+      no_zero = All-set (λ term. term.coefficient ≢ 0) ts k u nonzero list.no_zero;
     }
 
     pub total_at-put_same : total_at t.integral (set ts k u) ≡ u.coefficient
@@ -99,8 +100,8 @@ module _ (order : Order) (ts : List Term) (k : ℕ) (x : Integral) (list : IsTer
         record {
           descend = pairs_from_Descends order (take k ts ++ u ∷ drop k ts) descends_insert;
           no_zero = All-from_recursion (λ term. term.coefficient ≢ 0) (take k ts ++ u ∷ drop k ts)
-            (each-append (λ term. term.coefficient ≢ 0) (take k ts) (u ∷ drop k ts) (each-front (λ term. term.coefficient ≢ 0) (take k ts) (drop k ts) whole)
-              (nonzero, each-back (λ term. term.coefficient ≢ 0) (take k ts) (drop k ts) whole))
+              (each-append (λ term. term.coefficient ≢ 0) (take k ts) (u ∷ drop k ts) (each-front (λ term. term.coefficient ≢ 0) (take k ts) (drop k ts) whole)
+              (nonzero, each-back (λ term. term.coefficient ≢ 0) (take k ts) (drop k ts) whole));
         }
 
     pub total_at-inserted_same : total_at x (take k ts ++ u ∷ drop k ts) ≡ u.coefficient

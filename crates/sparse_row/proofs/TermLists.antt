@@ -132,9 +132,10 @@ Descends order (t ∷ ts) = AllUnder order t.integral ts × Descends order ts
 
 pub Descends-from_pairs : (order : Order) (ts : List Term) → AllPairs (IsAbove order) ts → Descends order ts
 Descends-from_pairs order [] h = tt
-Descends-from_pairs order (t ∷ ts) h =
-    (recursion_from_All (Under order t) ts (λ k d below. h 0 (suc k) d (omega arith) (omega arith)),
-     Descends-from_pairs order ts (λ i j d less below. h (suc i) (suc j) d (omega arith) (omega arith)))
+Descends-from_pairs order (t ∷ ts) h = (
+  recursion_from_All (Under order t) ts (λ k d below. h 0 (suc k) d (omega arith) (omega arith)),
+  Descends-from_pairs order ts (λ i j d less below. h (suc i) (suc j) d (omega arith) (omega arith)),
+)
 
 pub pairs_from_Descends : (order : Order) (ts : List Term) → Descends order ts → AllPairs (IsAbove order) ts
 pairs_from_Descends order [] h = λ i j d less below. absurd (omega arith)

@@ -53,14 +53,14 @@ module _ (p : ℕ) (order : Order) (factor : ℕ) where
     other_terms = right;
     above_left = tt;
     above_other = tt;
-    total = λ x. let none : 0 ≡ 0 + factor * 0 = omega arith in ap (λ n. n % p) none
+    total = λ x. let none : 0 ≡ 0 + factor * 0 = omega arith in ap (λ n. n % p) none;
   }
 
   pushed_terms : (sum : List Term) (y : Term) → IsTerms p order sum → AllOver order y.integral sum → y.coefficient ≢ 0 → y.coefficient < p → IsTerms p order (sum ++ y ∷ [])
   pushed_terms sum y h over nonzero below = record {
     descend = Descends-push order sum y h.descend over;
     no_zero = each-append (λ t. t.coefficient ≢ 0) sum (y ∷ []) h.no_zero (nonzero, tt);
-    below = each-append (λ t. t.coefficient < p) sum (y ∷ []) h.below (below, tt)
+    below = each-append (λ t. t.coefficient < p) sum (y ∷ []) h.below (below, tt);
   }
 
   -- y comes next: it is above what is then left, and adds what is then read beyond what was
@@ -73,8 +73,8 @@ module _ (p : ℕ) (order : Order) (factor : ℕ) where
       above_left = each-append (λ t. AllUnder order t.integral left') sum (y ∷ []) above_left (y_above_left, tt);
       above_other = each-append (λ t. AllUnder order t.integral other_left') sum (y ∷ []) above_other (y_above_other, tt);
       total = λ x.
-        ap (λ n. n % p) (total_at-append x sum (y ∷ []) ∙ ap (λ n. total_at x sum + n) (total_at-one x y))
-        ∙ sum_mod p (total_at x sum) (total_at x read + factor * total_at x other_read) (coefficient_at x y) (m.total x) ∙ adds x
+          ap (λ n. n % p) (total_at-append x sum (y ∷ []) ∙ ap (λ n. total_at x sum + n) (total_at-one x y))
+          ∙ sum_mod p (total_at x sum) (total_at x read + factor * total_at x other_read) (coefficient_at x y) (m.total x) ∙ adds x;
     }
 
     Merging-pass : y.coefficient ≡ 0 → Merging p order factor sum read' left' other_read' other_left'
@@ -85,8 +85,8 @@ module _ (p : ℕ) (order : Order) (factor : ℕ) where
       above_left = above_left;
       above_other = above_other;
       total = λ x.
-        let nothing : coefficient_at x y ≡ 0 = ap (λ n. cond (eq_by_cmp by_fields x y.integral) n 0) zero ∙ zero_both (eq_by_cmp by_fields x y.integral) in
-        m.total x ∙ ap (λ n. n % p) (sym (ap (λ n. total_at x read + factor * total_at x other_read + n) nothing ∙ add-zero _)) ∙ adds x
+          let nothing : coefficient_at x y ≡ 0 = ap (λ n. cond (eq_by_cmp by_fields x y.integral) n 0) zero ∙ zero_both (eq_by_cmp by_fields x y.integral) in
+          m.total x ∙ ap (λ n. n % p) (sym (ap (λ n. total_at x read + factor * total_at x other_read + n) nothing ∙ add-zero _)) ∙ adds x;
     }
 
     Merging-kept : Merging p order factor (sum ++ kept_term y) read' left' other_read' other_left'
@@ -129,8 +129,8 @@ module _ (p : ℕ) (order : Order) (factor : ℕ) where
       (all_over_head sum u other_left m.above_other) (mod-lt _ (coefficient_below u other_left m.other_terms)) m.left_terms (IsTerms-tail p order u other_left m.other_terms)
       m.above_left (above_tail sum u other_left m.above_other) under m.other_terms.descend.0
       (λ x.
-        scaled_adds x u (total_at x read + factor * total_at x other_read)
-        ∙ ap (λ n. n % p) (let e : total_at x (other_read ++ u ∷ []) ≡ total_at x other_read + coefficient_at x u = total_at-append x other_read (u ∷ []) ∙ ap (λ n. total_at x other_read + n) (total_at-one x u) in sum_of_parts (total_at x read) factor (total_at x other_read) (coefficient_at x u) (total_at x (other_read ++ u ∷ [])) e))
+      scaled_adds x u (total_at x read + factor * total_at x other_read)
+      ∙ ap (λ n. n % p) (let e : total_at x (other_read ++ u ∷ []) ≡ total_at x other_read + coefficient_at x u = total_at-append x other_read (u ∷ []) ∙ ap (λ n. total_at x other_read + n) (total_at-one x u) in sum_of_parts (total_at x read) factor (total_at x other_read) (coefficient_at x u) (total_at x (other_read ++ u ∷ [])) e))
     where
       sum_of_parts : (a f b c d : ℕ) → d ≡ b + c → a + f * b + f * c ≡ a + f * d
       sum_of_parts a f b c d e = rw e (omega arith)
@@ -154,7 +154,7 @@ module _ (p : ℕ) (order : Order) (factor : ℕ) where
       (all_over_head sum t left m.above_left) (mod-lt _ (coefficient_below t left m.left_terms)) (IsTerms-tail p order t left m.left_terms) (IsTerms-tail p order u other_left m.other_terms)
       (above_tail sum t left m.above_left) (above_tail sum u other_left m.above_other) m.left_terms.descend.0 (subst (λ x. AllUnder order x other_left) (sym same) m.other_terms.descend.0)
       (λ x. summed_adds x t u (total_at x read + factor * total_at x other_read) same
-        ∙ ap (λ n. n % p) (sum_of_parts (total_at x read) (coefficient_at x t) (total_at x (read ++ t ∷ [])) factor (total_at x other_read) (coefficient_at x u) (total_at x (other_read ++ u ∷ [])) (total_at-append x read (t ∷ []) ∙ ap (λ n. total_at x read + n) (total_at-one x t)) (total_at-append x other_read (u ∷ []) ∙ ap (λ n. total_at x other_read + n) (total_at-one x u))))
+      ∙ ap (λ n. n % p) (sum_of_parts (total_at x read) (coefficient_at x t) (total_at x (read ++ t ∷ [])) factor (total_at x other_read) (coefficient_at x u) (total_at x (other_read ++ u ∷ [])) (total_at-append x read (t ∷ []) ∙ ap (λ n. total_at x read + n) (total_at-one x t)) (total_at-append x other_read (u ∷ []) ∙ ap (λ n. total_at x other_read + n) (total_at-one x u))))
     where
       sum_of_parts : (a s a' f b c b' : ℕ) → a' ≡ a + s → b' ≡ b + c → a + f * b + s + f * c ≡ a' + f * b'
       sum_of_parts a s a' f b c b' e g = rw (e, g) (omega arith)
@@ -169,15 +169,15 @@ module _ (p : ℕ) (order : Order) (factor : ℕ) where
     terms = record {
       descend = Descends-append order sum left m.terms.descend m.left_terms.descend m.above_left;
       no_zero = each-append (λ t. t.coefficient ≢ 0) sum left m.terms.no_zero m.left_terms.no_zero;
-      below = each-append (λ t. t.coefficient < p) sum left m.terms.below m.left_terms.below
+      below = each-append (λ t. t.coefficient < p) sum left m.terms.below m.left_terms.below;
     };
     left_terms = m.other_terms;
     other_terms = m.other_terms;
     above_left = above_none (sum ++ left);
     above_other = above_none (sum ++ left);
     total = λ x.
-      ap (λ n. n % p) (total_at-append x sum left) ∙ sum_mod p (total_at x sum) (total_at x read + factor * total_at x other_read) (total_at x left) (m.total x)
-      ∙ ap (λ n. n % p) (omega (arith, total_at-append x read left))
+        ap (λ n. n % p) (total_at-append x sum left) ∙ sum_mod p (total_at x sum) (total_at x read + factor * total_at x other_read) (total_at x left) (m.total x)
+        ∙ ap (λ n. n % p) (omega (arith, total_at-append x read left));
   }
   Merging-left_rest sum read [] other_read (u ∷ other_left) one m =
       subst (λ s. Merging p order factor s (read ++ []) [] other_read (u ∷ other_left)) (sym (append-nil sum))
@@ -190,7 +190,7 @@ module _ (p : ℕ) (order : Order) (factor : ℕ) where
       (subst (λ r. Merging p order factor sum read [] r []) (sym (append-nil other_read)) m)
   Merging-other_rest sum read other_read (u ∷ other_left) m =
       let next = Merging-other_rest (sum ++ kept_term (scaled_term p factor u)) read (other_read ++ u ∷ []) other_left
-        (Merging-other sum read [] other_read u other_left tt m) in
+      (Merging-other sum read [] other_read u other_left tt m) in
       subst (λ s. Merging p order factor s read [] (other_read ++ u ∷ other_left) []) (append_assoc sum (kept_term (scaled_term p factor u)) (flat_map (λ other. kept_term (scaled_term p factor other)) other_left))
       (subst (λ r. Merging p order factor ((sum ++ kept_term (scaled_term p factor u)) ++ flat_map (λ other. kept_term (scaled_term p factor other)) other_left) read [] r []) (append_assoc other_read (u ∷ []) other_left) next)
 

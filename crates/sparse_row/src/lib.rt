@@ -94,7 +94,12 @@ impl Row {
 
     /// Adds a residue to the coefficient of an integral. Where the sum is 0, the integral is shown no
     /// more. After a refusal the row is as before.
-    pub fn add_term(&mut self, integral: &Integral, addend: u64, modulus: &Modulus) -> Result<(), OutOfMemory>
+    pub fn add_term(
+        &mut self,
+        integral: &Integral,
+        addend: u64,
+        modulus: &Modulus,
+    ) -> Result<(), OutOfMemory>
         requires row { IsRow modulus.now self.old.order self.old }
         requires residue { addend < modulus.now }
         ensures sum { OnOk result
@@ -110,7 +115,12 @@ impl Row {
     /// Adds a multiple of another row of the same order. Integrals whose coefficients become 0 are
     /// shown no more; for a composite modulus a product of two coefficients other than 0 may be 0.
     /// After a refusal the row is as before.
-    pub fn add_multiple(&mut self, other: &Row, factor: u64, modulus: &Modulus) -> Result<(), OutOfMemory>
+    pub fn add_multiple(
+        &mut self,
+        other: &Row,
+        factor: u64,
+        modulus: &Modulus,
+    ) -> Result<(), OutOfMemory>
         requires row { IsRow modulus.now self.old.order self.old }
         requires other_row { IsRow modulus.now self.old.order other.now }
         requires residue { factor < modulus.now }
@@ -119,7 +129,14 @@ impl Row {
         ensures row { IsRow modulus.now self.old.order self.new }
         ensures err { OnErr result (self.new ≡ self.old) }
     {
-        let sum = terms::sum_with_multiple(*self.terms.allocator(), self.order, &self.terms, &other.terms, factor, modulus)?;
+        let sum = terms::sum_with_multiple(
+            *self.terms.allocator(),
+            self.order,
+            &self.terms,
+            &other.terms,
+            factor,
+            modulus,
+        )?;
         self.terms = sum;
         Ok(())
     }

@@ -38,7 +38,13 @@ pub(crate) fn place_of(terms: &[Term], order: Order, x: &Integral) -> Result<usi
 }
 
 // Adds a residue to the coefficient of an integral.
-pub(crate) fn add_term(terms: &mut Vec<Term>, order: Order, integral: &Integral, addend: u64, modulus: &Modulus) -> Result<(), OutOfMemory>
+pub(crate) fn add_term(
+    terms: &mut Vec<Term>,
+    order: Order,
+    integral: &Integral,
+    addend: u64,
+    modulus: &Modulus,
+) -> Result<(), OutOfMemory>
     requires list { IsTermList order terms.old.items }
     requires below { AllBelow modulus.now terms.old.items }
     requires residue { addend < modulus.now }
@@ -73,7 +79,14 @@ pub(crate) fn add_term(terms: &mut Vec<Term>, order: Order, integral: &Integral,
 }
 
 // The terms plus a multiple of the others, by one merge of the two lists.
-pub(crate) fn sum_with_multiple(alloc: Global, order: Order, terms: &[Term], others: &[Term], factor: u64, modulus: &Modulus) -> Result<Vec<Term>, OutOfMemory>
+pub(crate) fn sum_with_multiple(
+    alloc: Global,
+    order: Order,
+    terms: &[Term],
+    others: &[Term],
+    factor: u64,
+    modulus: &Modulus,
+) -> Result<Vec<Term>, OutOfMemory>
     requires list { IsTermList order terms.now }
     requires below { AllBelow modulus.now terms.now }
     requires other_list { IsTermList order others.now }
@@ -112,7 +125,12 @@ pub(crate) fn sum_with_multiple(alloc: Global, order: Order, terms: &[Term], oth
 }
 
 // Appends the multiples of the others, except those that are 0.
-fn push_multiples(sum: &mut Vec<Term>, others: &[Term], factor: u64, modulus: &Modulus) -> Result<(), OutOfMemory>
+fn push_multiples(
+    sum: &mut Vec<Term>,
+    others: &[Term],
+    factor: u64,
+    modulus: &Modulus,
+) -> Result<(), OutOfMemory>
     requires below { AllBelow modulus.now others.now }
     requires residue { factor < modulus.now }
     ensures { OnOk result (sum.new.items

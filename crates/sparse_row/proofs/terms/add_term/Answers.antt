@@ -42,7 +42,7 @@ returns-else-sum-eq0-clause-sum c =
     let at_s : s.integral ≡ c.args.integral.now = ap (λ v. v.integral) c.index.ensures ∙ found.1 s in
     let at_t : t.integral ≡ c.args.integral.now = ap (λ v. v.integral) c.index_mut.ensures.value ∙ found.1 t in
     let was : total_at c.args.integral.now ts ≡ s.coefficient =
-      ap (λ x. total_at x ts) (sym at_s) ∙ total_at-of_place c.args.order ts c.in-Ok.place s c.requires.list found.0 (sym c.index.ensures) in
+    ap (λ x. total_at x ts) (sym at_s) ∙ total_at-of_place c.args.order ts c.in-Ok.place s c.requires.list found.0 (sym c.index.ensures) in
     let now = total_at-put_same c.args.order ts c.in-Ok.place t c.requires.list found.0 (sym c.index_mut.ensures.value) u refl in
     rw (← at_t) now ∙ c.add-sum.ensures.value ∙ ap (λ n. (n + c.args.addend) % c.args.modulus.now) (sym was)
 
@@ -69,7 +69,7 @@ returns-in_ok-insert-in-Err-clause-sum c =
     let absent = rw c.deref.ensures.value at c.in-Err.ensures.absent in
     let was = total_at-absent c.args.order ts c.in-Err.place c.args.integral.now c.requires.list absent.1 absent.2 in
     rw (c.in_ok-insert-in-Err.ensures.items, was)
-      (total_at-inserted_same c.args.order ts c.in-Err.place c.args.integral.now c.requires.list absent.1 absent.2 u refl ∙ sym (ap (λ n. n % c.args.modulus.now) (zero-add c.args.addend) ∙ mod-eq_of_lt c.requires.residue))
+    (total_at-inserted_same c.args.order ts c.in-Err.place c.args.integral.now c.requires.list absent.1 absent.2 u refl ∙ sym (ap (λ n. n % c.args.modulus.now) (zero-add c.args.addend) ∙ mod-eq_of_lt c.requires.residue))
 
 pub returns-in_ok-insert-in-Err-clause-others : goal.returns-in_ok-insert-in-Err-clause-others
 returns-in_ok-insert-in-Err-clause-others c x differ =

@@ -11,6 +11,7 @@ pub returns-then-term-other : goal.returns-then-term-other
 returns-then-term-other c =
     let t = c.args.term.now in
     let u = c.args.other.now in
-    let is : c.is_eq.result ≡ is_eq (compare c.args.order t.integral u.integral) = c.is_eq.ensures ∙ ap is_eq c.compare.ensures in
-    (λ yes. same_term c.args.order t u ((Equal-is _).0 (sym is ∙ yes)) c.if-term-other.true,
-     λ e. is ∙ ap is_eq (ap (λ v. compare c.args.order t.integral v.integral) (sym e) ∙ tied_itself (compare-total c.args.order) t.integral))
+    let is : c.is_eq.result ≡ is_eq (compare c.args.order t.integral u.integral) = c.is_eq.ensures ∙ ap is_eq c.compare.ensures in (
+      λ yes. same_term c.args.order t u ((Equal-is _).0 (sym is ∙ yes)) c.if-term-other.true,
+      λ e. is ∙ ap is_eq (ap (λ v. compare c.args.order t.integral v.integral) (sym e) ∙ tied_itself (compare-total c.args.order) t.integral),
+    )

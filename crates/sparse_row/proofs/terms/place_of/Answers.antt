@@ -11,7 +11,7 @@ loop-low-preserved-in-Greater c =
       ordered = omega arith;
       within = omega arith;
       above = λ k d from below. above_up_to c.args.order c.args.terms.now c.args.x.now middle _ c.requires.descend (omega arith) (sym c.in-Greater.ensures) k d below;
-      under = c.loop-low.invariant.under
+      under = c.loop-low.invariant.under;
     }
 
 pub returns-in-Equal-clause-found : goal.returns-in-Equal-clause-found
@@ -28,5 +28,5 @@ loop-low-preserved c =
       ordered = omega arith;
       within = omega arith;
       above = c.loop-low.invariant.above;
-      under = λ k d from below. under_from c.args.order c.args.terms.now c.args.x.now middle _ c.requires.descend (omega arith) (sym c.in-Less.ensures) k d from below
+      under = λ k d from below. under_from c.args.order c.args.terms.now c.args.x.now middle _ c.requires.descend (omega arith) (sym c.in-Less.ensures) k d from below;
     }

@@ -9,7 +9,7 @@ invariant-loop-low l = record {
   ordered : l.low ≤ l.high;
   within : l.high ≤ length l.terms;
   above : AllWithin (λ term. compare l.order term.integral l.x ≡ Greater) l.terms 0 l.low;
-  under : AllWithin (λ term. compare l.order term.integral l.x ≡ Less) l.terms l.high (length l.terms)
+  under : AllWithin (λ term. compare l.order term.integral l.x ≡ Less) l.terms l.high (length l.terms);
 }
 
 abbrev pub decreases-loop-low : goal.decreases-loop-low

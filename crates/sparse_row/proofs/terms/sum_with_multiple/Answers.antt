@@ -13,28 +13,28 @@ loop-i-init c =
     record {
       within = omega arith;
       other_within = omega arith;
-      merging = rw c.in_ok-sum.ensures.items (Merging-none p c.args.order c.args.factor c.args.terms.now c.args.others.now left right)
+      merging = rw c.in_ok-sum.ensures.items (Merging-none p c.args.order c.args.factor c.args.terms.now c.args.others.now left right);
     }
 
 pub loop-i-preserved-in-Greater : goal.loop-i-preserved-in-Greater
 loop-i-preserved-in-Greater c = record {
   within = omega arith;
   other_within = c.loop-i.invariant.other_within;
-  merging = rw c.in_ok-push-in-Greater.ensures.items (Merging-Greater c.args.modulus.now c.args.order c.args.factor c.args.terms.now c.args.others.now c.loop-i.i c.loop-i.j c.index-terms-i.result c.index-others-j.result c.loop-i.sum.items (omega arith) (omega arith) c.index-terms-i.is c.index-others-j.is c.loop-i.invariant.merging (sym c.in-Greater.ensures))
+  merging = rw c.in_ok-push-in-Greater.ensures.items (Merging-Greater c.args.modulus.now c.args.order c.args.factor c.args.terms.now c.args.others.now c.loop-i.i c.loop-i.j c.index-terms-i.result c.index-others-j.result c.loop-i.sum.items (omega arith) (omega arith) c.index-terms-i.is c.index-others-j.is c.loop-i.invariant.merging (sym c.in-Greater.ensures));
 }
 
 pub loop-i-preserved-in-Equal : goal.loop-i-preserved-in-Equal
 loop-i-preserved-in-Equal c = record {
   within = omega arith;
   other_within = omega arith;
-  merging = rw (c.in_ok-push_nonzero-in-Equal.ensures, c.sum_of_terms.ensures) (Merging-Equal c.args.modulus.now c.args.order c.args.factor c.args.terms.now c.args.others.now c.loop-i.i c.loop-i.j c.index-terms-i.result c.index-others-j.result c.loop-i.sum.items (omega arith) (omega arith) c.index-terms-i.is c.index-others-j.is c.loop-i.invariant.merging (sym c.in-Equal.ensures))
+  merging = rw (c.in_ok-push_nonzero-in-Equal.ensures, c.sum_of_terms.ensures) (Merging-Equal c.args.modulus.now c.args.order c.args.factor c.args.terms.now c.args.others.now c.loop-i.i c.loop-i.j c.index-terms-i.result c.index-others-j.result c.loop-i.sum.items (omega arith) (omega arith) c.index-terms-i.is c.index-others-j.is c.loop-i.invariant.merging (sym c.in-Equal.ensures));
 }
 
 pub loop-i-preserved : goal.loop-i-preserved
 loop-i-preserved c = record {
   within = c.loop-i.invariant.within;
   other_within = omega arith;
-  merging = rw (c.in_ok-push_nonzero-in-Less.ensures, c.multiple_of.ensures) (Merging-Less c.args.modulus.now c.args.order c.args.factor c.args.terms.now c.args.others.now c.loop-i.i c.loop-i.j c.index-terms-i.result c.index-others-j.result c.loop-i.sum.items (omega arith) (omega arith) c.index-terms-i.is c.index-others-j.is c.loop-i.invariant.merging (sym c.in-Less.ensures))
+  merging = rw (c.in_ok-push_nonzero-in-Less.ensures, c.multiple_of.ensures) (Merging-Less c.args.modulus.now c.args.order c.args.factor c.args.terms.now c.args.others.now c.loop-i.i c.loop-i.j c.index-terms-i.result c.index-others-j.result c.loop-i.sum.items (omega arith) (omega arith) c.index-terms-i.is c.index-others-j.is c.loop-i.invariant.merging (sym c.in-Less.ensures));
 }
 
 -- what is merged when all is read
