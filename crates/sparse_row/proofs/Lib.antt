@@ -1,2 +1,8 @@
 pub mod Spans
 pub mod RowSpans
+pub mod RowValues
+pub mod TermEdits
+pub mod TermLists
+pub mod TermMerge
+pub mod TermScale
+pub mod SumLemmas

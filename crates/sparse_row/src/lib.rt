@@ -50,10 +50,12 @@ impl Row {
     ghost use Rattle.field_word.specs.Residues.{IsInverse};
     ghost use Rattle.integral_index.specs.Integral.{Integral as IntegralValue};
     ghost use Rattle.sparse_row.specs.Row.{coefficient, Shows, IsRow, IsEmpty, IsGreatest, IsPivot};
+    ghost use Rattle.sparse_row.specs.SumOfTerms.{empty_row, with_term};
     ghost use Rattle.sparse_row.specs.Terms.{total_at, AllBelow, IsTermList, row_of};
 
     /// The row that shows nothing, in this order. It takes no memory yet.
     pub fn new(alloc: Global, order: Order) -> Row
+        ensures value { result ≡ empty_row order }
         ensures empty { IsEmpty result }
         ensures row { (p : ℕ) → 0 < p → IsRow p order result }
     {
@@ -94,9 +96,15 @@ impl Row {
 
     /// Adds a residue to the coefficient of an integral. Where the sum is 0, the integral is shown no
     /// more. After a refusal the row is as before.
-    pub fn add_term(&mut self, integral: &Integral, addend: u64, modulus: &Modulus) -> Result<(), OutOfMemory>
+    pub fn add_term(
+        &mut self,
+        integral: &Integral,
+        addend: u64,
+        modulus: &Modulus,
+    ) -> Result<(), OutOfMemory>
         requires row { IsRow modulus.now self.old.order self.old }
         requires residue { addend < modulus.now }
+        ensures value { OnOk result (self.new ≡ with_term modulus.now self.old (integral.now, addend)) }
         ensures sum { OnOk result
             (coefficient self.new integral.now ≡ (coefficient self.old integral.now + addend) % modulus.now) }
         ensures others { OnOk result
@@ -110,7 +118,12 @@ impl Row {
     /// Adds a multiple of another row of the same order. Integrals whose coefficients become 0 are
     /// shown no more; for a composite modulus a product of two coefficients other than 0 may be 0.
     /// After a refusal the row is as before.
-    pub fn add_multiple(&mut self, other: &Row, factor: u64, modulus: &Modulus) -> Result<(), OutOfMemory>
+    pub fn add_multiple(
+        &mut self,
+        other: &Row,
+        factor: u64,
+        modulus: &Modulus,
+    ) -> Result<(), OutOfMemory>
         requires row { IsRow modulus.now self.old.order self.old }
         requires other_row { IsRow modulus.now self.old.order other.now }
         requires residue { factor < modulus.now }
@@ -119,7 +132,14 @@ impl Row {
         ensures row { IsRow modulus.now self.old.order self.new }
         ensures err { OnErr result (self.new ≡ self.old) }
     {
-        let sum = terms::sum_with_multiple(*self.terms.allocator(), self.order, &self.terms, &other.terms, factor, modulus)?;
+        let sum = terms::sum_with_multiple(
+            *self.terms.allocator(),
+            self.order,
+            &self.terms,
+            &other.terms,
+            factor,
+            modulus,
+        )?;
         self.terms = sum;
         Ok(())
     }
@@ -191,6 +211,6 @@ impl Row {
     pub fn equals(&self, other: &Row) -> bool
         ensures { IsTrue result ↔ (self.now ≡ other.now) }
     {
-        self.order == other.order && terms::equal(&self.terms, &other.terms)
+        self.order == other.order && terms::equal(self.order, &self.terms, &other.terms)
     }
 }
