@@ -1,1 +1,2 @@
 pub mod Tadpole
+pub mod TwoTerms

@@ -1,5 +1,10 @@
 -- The exit status and the message of each status. The project's own.
-use Rattle.std.specs.Prelude.{ℕ, List, [], ◌++◌, codes, decimal}
+use Rattle.std.specs.Prelude.{◌≡◌, ◌⊎◌, ℕ, List, [], ◌++◌, codes, decimal, Option, option_map}
+use Rattle.kira_outside.specs.Faults.{Rose}
+use Rattle.kira_outside.specs.Stream.{Stream, appended}
+use Rattle.table_text.specs.Sending.{IsPrefixSent}
+use Rattle.reduction_core.specs.declared.plain.ForwardFault.{ForwardFault}
+use Rattle.reduction_core.specs.declared.plain.ForwardFault.TheVariants as fault
 use Rattle.kira_app.specs.declared.status.Status.{Status}
 use Rattle.kira_app.specs.declared.status.Status.TheVariants.{Ok, NotYet, Composite, ReadFault, WriteFault, OutOfMemory}
 
@@ -19,3 +24,13 @@ message_text ReadFault = codes "kira: reading failed\n"
 message_text WriteFault = codes "kira: writing failed\n"
 message_text OutOfMemory = codes "kira: out of memory\n"
 message_text NotYet = codes "kira: not yet\n"
+
+-- the text was written behind what was there, or a prefix of it where the count of faults rose
+abbrev pub IsToldOf : List ℕ → Option Stream → Option Stream → ℕ → ℕ → Type 0
+IsToldOf text before after faults faults_after =
+    (after ≡ option_map (appended text) before) ⊎ (Rose faults faults_after × IsPrefixSent text before after)
+
+-- the status of a reduction that gave no table
+abbrev pub status_of_fault : ForwardFault → Status
+status_of_fault (fault.Composite composite) = Composite composite
+status_of_fault fault.OutOfMemory = OutOfMemory

@@ -2,7 +2,11 @@
 #![tactic(auto)]
 
 mod job_files;
+mod message;
 mod status;
+mod tadpole_job;
+mod top;
 mod words;
 
+pub use message::tell;
 pub use status::{Status, exit_code};

@@ -1,2 +1,4 @@
 pub mod SendingLemmas
 pub mod AppendedPieces
+pub mod PiecesLemmas
+pub mod DescendingTerms

@@ -3,13 +3,13 @@ ghost use Rattle.std.specs.Prelude.{◌≡◌, ◌++◌, codes, map, decimal, On
 ghost use Rattle.std.specs.Fmt.{signed_decimal};
 ghost use Rattle.std.specs.List.{join_by};
 ghost use Rattle.sparse_row.specs.Terms.{entry_of};
-ghost use Rattle.table_text.specs.Pieces.{integral_text, name_of, term_text, sum_text};
+ghost use Rattle.table_text.specs.Pieces.{descending_terms, integral_text, line_text, name_of, term_text, sum_text};
 
 use integral_index::Integral;
 use itoa::Buffer;
 use kira_outside::Text8;
 use out_of_memory::OutOfMemory;
-use sparse_row::Term;
+use sparse_row::{Row, Term};
 
 /// Appends an integral, whose family has the name at its place.
 pub(crate) fn push_integral(text: &mut Vec<u8>, names: &[Text8], integral: &Integral) -> Result<(), OutOfMemory>
@@ -97,5 +97,29 @@ pub(crate) fn push_number(text: &mut Vec<u8>, number: u64) -> Result<(), OutOfMe
 {
     let mut buffer = Buffer::new();
     text.extend_from_slice(buffer.format(number).as_bytes())?;
+    Ok(())
+}
+
+/// Appends a line: an integral, and what it equals.
+pub(crate) fn push_line(
+    text: &mut Vec<u8>,
+    names: &[Text8],
+    integral: &Integral,
+    form: &Row,
+) -> Result<(), OutOfMemory>
+    ensures { OnOk result (text.new.items ≡ text.old.items ++ line_text (name_of names.now) integral.now form.now) }
+{
+    push_integral(text, names, integral)?;
+    text.extend_from_slice(b" = ")?;
+    push_form(text, names, form)?;
+    text.extend_from_slice(b"\n")?;
+    Ok(())
+}
+
+// Appends the terms of a row.
+fn push_form(text: &mut Vec<u8>, names: &[Text8], form: &Row) -> Result<(), OutOfMemory>
+    ensures { OnOk result (text.new.items ≡ text.old.items ++ sum_text (name_of names.now) (descending_terms form.now)) }
+{
+    push_sum(text, names, form.terms())?;
     Ok(())
 }

@@ -10,9 +10,9 @@ returns-clause-loaded g c =
     let jobs = c.in_ok-load_expected.ensures in
     let families = c.in_ok-load_expected-2.ensures in
     on_ok_weaker _ (λ kinematics.
-      all_three _ jobs.loaded
-      (before (λ files. get files (codes "config/integralfamilies.yaml") ≡ Some FAMILIES.now) _ _ jobs.same families.loaded)
-      (before (λ files. get files (codes "config/kinematics.yaml") ≡ Some KINEMATICS.now) _ _ (families.same ∙ jobs.same) kinematics)) c.load_expected-3.ensures.loaded
+    all_three _ jobs.loaded
+    (before (λ files. get files (codes "config/integralfamilies.yaml") ≡ Some FAMILIES.now) _ _ jobs.same families.loaded)
+    (before (λ files. get files (codes "config/kinematics.yaml") ≡ Some KINEMATICS.now) _ _ (families.same ∙ jobs.same) kinematics)) c.load_expected-3.ensures.loaded
 
 pub returns-clause-not_yet : goal.returns-clause-not_yet
 returns-clause-not_yet g c = λ refused.

@@ -8,8 +8,8 @@ loop-written-preserved g c =
     record {
       within = omega (arith, c.in-Ok.ensures.within, ap length (rest-drop c.loop-written.written c.args.bytes.now), length-drop c.loop-written.written c.args.bytes.now);
       told =
-        c.in-Ok.ensures.written
-        ∙ ap (option_map (appended (take c.in-Ok.count (take (length c.args.bytes.now - c.loop-written.written) (drop c.loop-written.written c.args.bytes.now))))) c.loop-written.invariant.told
-        ∙ appended-take-add c.loop-written.written c.in-Ok.count c.args.bytes.now (g.O.Sink.told c.args.out.now);
-      count = c.in-Ok.ensures.ok_count ∙ c.loop-written.invariant.count
+          c.in-Ok.ensures.written
+          ∙ ap (option_map (appended (take c.in-Ok.count (take (length c.args.bytes.now - c.loop-written.written) (drop c.loop-written.written c.args.bytes.now))))) c.loop-written.invariant.told
+          ∙ appended-take-add c.loop-written.written c.in-Ok.count c.args.bytes.now (g.O.Sink.told c.args.out.now);
+      count = c.in-Ok.ensures.ok_count ∙ c.loop-written.invariant.count;
     }

@@ -7,7 +7,7 @@ invariant-loop-written g l =
     record {
       within : l.written ≤ length l.bytes;
       told : g.O.Sink.told l.out ≡ option_map (appended (take l.written l.bytes)) (g.O.Sink.told l.initial.out);
-      count : g.O.Sink.faults l.out ≡ g.O.Sink.faults l.initial.out
+      count : g.O.Sink.faults l.out ≡ g.O.Sink.faults l.initial.out;
     }
 
 abbrev pub decreases-loop-written : goal.decreases-loop-written
