@@ -1,1 +1,3 @@
+pub mod IndexLists
 pub mod Orders
+mod ZeroSectorLemmas

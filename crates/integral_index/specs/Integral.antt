@@ -1,6 +1,6 @@
 -- An integral of a family, and the numbers that are read from its indices: sector, t, r, s and dots.
 -- Source: Kira, arXiv:1705.05610.
-use Rattle.std.specs.Prelude.{ℕ, ◌+◌, ◌-◌, ◌*◌, ℤ, pos, negsuc, Bool, if◌then◌else◌, List, [], ◌∷◌, nat_lt, suc, sum_by, count_by, refl}
+use Rattle.std.specs.Prelude.{ℕ, ◌+◌, ◌-◌, ◌*◌, ◌≤◌, ℤ, pos, negsuc, Bool, if◌then◌else◌, List, [], ◌∷◌, length, All, nat_lt, suc, sum_by, count_by, refl}
 use Rattle.std.specs.Coded.{Coded, code_by, coded×, coded_ℕ, coded_ℤ, coded_list}
 
 -- the loop integral over the product of the denominators D_j to the power -a_j, of the family with this place in the job
@@ -22,6 +22,16 @@ positive_part (negsuc n) = 0
 abbrev pub negative_part : ℤ → ℕ
 negative_part (pos n) = 0
 negative_part (negsuc n) = suc n
+
+-- an index that an integral may have: from -101 to 101
+abbrev pub IsIndex : ℤ → Type 0
+IsIndex a = (positive_part a ≤ 101) × (negative_part a ≤ 101)
+
+-- a list of indices that an integral may have: 1 to 20 of them
+pub record IsIndexList (indices : List ℤ) : Type 0 where
+  pub some : 1 ≤ length indices
+  pub at_most_twenty : length indices ≤ 20
+  pub each : All IsIndex indices
 
 abbrev pub is_positive : ℤ → Bool
 is_positive a = nat_lt 0 (positive_part a)

@@ -1,3 +1,5 @@
 pub mod Row
 pub mod Span
 pub mod ReducedList
+pub mod Terms
+pub mod KeptRow
