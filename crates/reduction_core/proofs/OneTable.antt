@@ -32,10 +32,10 @@ same_row p order row other r s same =
     λ i. record { order = orders i; terms = terms i }
 
 module _ (p : ℕ) (order : Order) where
-  IsTop-from_pivot : (row : Row) (x : Integral) → IsPivot order row x → IsTop (compare order) (coefficient row) x
+  pub IsTop-from_pivot : (row : Row) (x : Integral) → IsPivot order row x → IsTop (compare order) (coefficient row) x
   IsTop-from_pivot row x pivot = record { one = pivot.one; greatest = pivot.is_greatest.greatest }
 
-  pivot_from_top : (row : Row) (x : Integral) → IsTop (compare order) (coefficient row) x → IsPivot order row x
+  pub pivot_from_top : (row : Row) (x : Integral) → IsTop (compare order) (coefficient row) x → IsPivot order row x
   pivot_from_top row x top =
       record { is_greatest = record { shown = λ e. absurd (omega (arith, top.one)); greatest = top.greatest }; one = top.one }
 
