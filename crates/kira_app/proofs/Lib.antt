@@ -1,2 +1,3 @@
 pub mod Tadpole
 pub mod TwoTerms
+pub mod TextOfTable

@@ -2,6 +2,8 @@
 use Rattle.std.specs.Prelude.{◌≡◌, ⊤, ◌⊎◌, ℕ, List, Option, Some, MatchOption, codes}
 use Rattle.std.specs.FinMap as map
 use Rattle.kira_outside.specs.Held.{Held}
+use Rattle.kira_app.specs.declared.status.Status.{Status}
+use Rattle.kira_app.specs.declared.status.Status.TheVariants as status
 use Rattle.kira_app.specs.declared.job_files.TheConstants.{JOBS, FAMILIES, KINEMATICS}
 
 -- the three files are held, each with just the bytes of the program's constant
@@ -13,3 +15,10 @@ pub record HoldsTadpole (held : Held) : Type 0 where
 -- where the content is told, it is that of the tadpole
 abbrev pub IfTold : Option Held → (Held → Type 0) → Type 0
 IfTold held P = MatchOption held ⊤ P
+
+-- an answer that loading the files may give
+abbrev pub IsLoadFault : Status → Type 0
+IsLoadFault status.NotYet = ⊤
+IsLoadFault status.ReadFault = ⊤
+IsLoadFault status.OutOfMemory = ⊤
+IsLoadFault other = ⊥

@@ -4,11 +4,13 @@ use Rattle.std.specs.Int.{◌∣◌}
 use Rattle.integral_index.specs.declared.Order.TheVariants.{Standard}
 use Rattle.sparse_row.specs.Row.{Row}
 use Rattle.sparse_row.specs.ReducedList.{IsReduced}
+use Rattle.kira_outside.specs.Held.{Held}
 use Rattle.kira_outside.specs.Stream.{Stream}
 use Rattle.table_text.specs.Sending.{sent, IsPrefixSent}
 use Rattle.table_text.specs.Pieces.{name_of}
 use Rattle.table_text.specs.TableText.{table_text, zeros_of}
 use Rattle.kira_app.specs.Words.{Request, request_of}
+use Rattle.kira_app.specs.TadpoleFiles.{HoldsTadpole, IfTold}
 use Rattle.kira_app.specs.Tadpole.{tadpole_equations, tadpole_selection}
 use Rattle.kira_app.specs.declared.status.Status.{Status}
 use Rattle.kira_app.specs.declared.status.Status.TheVariants as status
@@ -64,3 +66,7 @@ abbrev pub IsReductionFault : Status → Type 0
 IsReductionFault (status.Composite fault) = ⊤
 IsReductionFault status.OutOfMemory = ⊤
 IsReductionFault other = ⊥
+
+-- the words are of another form, or the files are told and aren't the tadpole's
+abbrev pub IsNotServed : List (List ℕ) → Option Held → Type 0
+IsNotServed words held = (request_of words ≡ None) ⊎ IfTold held (λ files. ¬ (HoldsTadpole files))

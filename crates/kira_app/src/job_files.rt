@@ -1,8 +1,8 @@
 // The files of a job, which have to be those of the tadpole.
-ghost use Rattle.std.specs.Prelude.{◌≡◌, ◌≢◌, ◌≤◌, ◌<◌, ◌^◌, Some, length, OnOk, OnErr, IsErrOf};
+ghost use Rattle.std.specs.Prelude.{◌≡◌, ◌≢◌, ◌≤◌, ◌<◌, ◌^◌, Some, length, OnOk, OnErr, IfErr, IsErrOf};
 ghost use Rattle.std.specs.FinMap.{get};
 ghost use Rattle.kira_outside.specs.Faults.{Rose};
-ghost use Rattle.kira_app.specs.TadpoleFiles.{HoldsTadpole, IfTold};
+ghost use Rattle.kira_app.specs.TadpoleFiles.{HoldsTadpole, IfTold, IsLoadFault};
 
 use crate::Status;
 use kira_outside::{Files, LoadFault};
@@ -45,6 +45,7 @@ kinematics :
 /// is missing or has other bytes, `ReadFault` where reading one failed.
 pub(crate) fn load_tadpole<F: Files>(alloc: Global, files: &mut F) -> Result<(), Status>
     ensures loaded { OnOk result (IfTold (F.held files.old) HoldsTadpole) }
+    ensures refused { IfErr result IsLoadFault }
     ensures not_yet { IsErrOf result Status.NotYet → IfTold (F.held files.old) (λ held. ¬ (HoldsTadpole held)) }
     ensures failed { IsErrOf result Status.ReadFault → Rose (F.faults files.old) (F.faults files.new) }
     ensures same { F.held files.new ≡ F.held files.old }
@@ -65,6 +66,7 @@ fn load_expected<F: Files>(
 ) -> Result<(), Status>
     requires { length expected.now < 2 ^ 32 }
     ensures loaded { OnOk result (IfTold (F.held files.old) (λ held. get held name.now ≡ Some expected.now)) }
+    ensures refused { IfErr result IsLoadFault }
     ensures not_yet { IsErrOf result Status.NotYet → IfTold (F.held files.old) (λ held. get held name.now ≢ Some expected.now) }
     ensures failed { IsErrOf result Status.ReadFault → Rose (F.faults files.old) (F.faults files.new) }
     ensures same { F.held files.new ≡ F.held files.old }

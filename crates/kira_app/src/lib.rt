@@ -10,3 +10,4 @@ mod words;
 
 pub use message::tell;
 pub use status::{Status, exit_code};
+pub use top::kira_alone;
