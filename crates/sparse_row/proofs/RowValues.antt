@@ -172,6 +172,15 @@ IsGreatest-head order t ts list =
       greatest = λ y shows above. shows (coefficient-row_of order (t ∷ ts) descend y ∙ total_at-above_head order y t ts descend above);
     }
 
+-- a row of some term shows its first
+pub IsEmpty-from_length : (order : Order) (ts : List Term) → length ts ≡ 0 → IsEmpty (row_of order ts)
+IsEmpty-from_length order [] e = IsEmpty-row_of order
+IsEmpty-from_length order (t ∷ ts) e = absurd (omega arith)
+
+pub length-from_empty : (order : Order) (ts : List Term) → IsTermList order ts → IsEmpty (row_of order ts) → length ts ≡ 0
+length-from_empty order [] list e = refl
+length-from_empty order (t ∷ ts) list e = absurd ((IsGreatest-head order t ts list).shown (e t.integral))
+
 -- ---- rows
 
 -- a row has one greatest integral

@@ -178,6 +178,13 @@ impl Row {
         }
     }
 
+    /// Whether the row shows nothing.
+    pub fn is_empty(&self) -> bool
+        ensures { IsTrue result ↔ IsEmpty self.now }
+    {
+        self.terms.is_empty()
+    }
+
     /// The coefficient of an integral, and 0 where the row doesn't show it.
     pub fn coefficient(&self, x: &Integral) -> u64
         ensures { result ≡ coefficient self.now x.now }
@@ -214,3 +221,6 @@ impl Row {
         self.order == other.order && terms::equal(self.order, &self.terms, &other.terms)
     }
 }
+
+#[cfg(test)]
+mod tests;
