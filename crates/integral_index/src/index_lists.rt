@@ -1,7 +1,14 @@
 //! The numbers that are read from a list of indices: an index is minus the power of a denominator.
 
-ghost use Rattle.std.specs.Prelude.{◌≡◌, ◌*◌, ◌≤◌, length};
-ghost use Rattle.integral_index.specs.Integral.{positive_part, negative_part, sector_of, t_of, r_of, s_of, dots_of};
+ghost use Rattle.std.specs.Prelude.{◌≡◌, ◌≤◌, ◌↔◌, All, IsTrue, length};
+ghost use Rattle.integral_index.specs.Integral.{IsIndex, IsIndexList, positive_part, negative_part, sector_of, t_of, r_of, s_of, dots_of};
+
+/// Whether an integral may have these indices: 1 to 20 of them, each from -101 to 101.
+pub fn is_index_list(indices: &[i8]) -> bool
+    ensures { IsTrue result ↔ IsIndexList indices.now }
+{
+    !indices.is_empty() && indices.len() <= 20 && are_in_range(indices)
+}
 
 /// The sector number: the sum of `2^(j-1)` over the places j, from 1, of the positive indices.
 /// Source: arXiv:1705.05610.
@@ -64,6 +71,19 @@ pub fn dots(indices: &[i8]) -> u32
     ensures { result ≡ dots_of indices.now }
 {
     r(indices) - t(indices)
+}
+
+// whether each index is from -101 to 101
+fn are_in_range(indices: &[i8]) -> bool
+    ensures { IsTrue result ↔ All IsIndex indices.now }
+{
+    indices.iter().all(|index| is_in_range(*index))
+}
+
+fn is_in_range(index: i8) -> bool
+    ensures { IsTrue result ↔ IsIndex index }
+{
+    index.unsigned_abs() <= 101
 }
 
 // the index where it is positive, and else 0

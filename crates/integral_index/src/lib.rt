@@ -3,7 +3,7 @@
 
 ghost use Rattle.std.specs.Prelude.{◌≡◌};
 
-pub use index_lists::{dots, r, s, sector, t};
+pub use index_lists::{dots, is_index_list, r, s, sector, t};
 pub use integrals::Integral;
 use std::cmp::Ordering;
 pub use zeros::ZeroSectors;
@@ -60,3 +60,6 @@ impl Unit {
             .then(self.sector.cmp(&other.sector))
     }
 }
+
+#[cfg(test)]
+mod tests;

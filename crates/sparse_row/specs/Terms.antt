@@ -1,5 +1,5 @@
 -- Rows as lists of terms, from the greatest integral to the least.
-use Rattle.std.specs.Prelude.{◌≡◌, ◌≢◌, ℕ, ◌<◌, if◌then◌else◌, List, map, All, AllPairs, sum_by}
+use Rattle.std.specs.Prelude.{◌≡◌, ◌≢◌, ℕ, ◌+◌, ◌*◌, ◌%◌, ◌<◌, ◌==◌, if◌then◌else◌, List, [], ◌∷◌, map, All, AllPairs, sum_by}
 use Rattle.std.specs.FinMap as finite
 use Rattle.std.specs.Ordering.{eq_by_cmp}
 use Rattle.std.specs.declared.cmp.Ordering.TheVariants.{Greater}
@@ -36,3 +36,15 @@ entry_of term = (term.integral, term.coefficient)
 -- the row of these terms
 abbrev pub row_of : Order → List Term → Row
 row_of order terms = record { order = order; terms = finite.from_entries (map entry_of terms) }
+
+-- the term times a factor, modulo p
+abbrev pub scaled_term : ℕ → ℕ → Term → Term
+scaled_term p factor term = record { integral = term.integral; coefficient = (term.coefficient * factor) % p }
+
+-- the term plus the multiple of another of the same integral, modulo p
+abbrev pub summed_term : ℕ → ℕ → Term → Term → Term
+summed_term p factor term other = record { integral = term.integral; coefficient = (term.coefficient + (other.coefficient * factor) % p) % p }
+
+-- the list of the term, without a term of coefficient 0
+abbrev pub kept_term : Term → List Term
+kept_term term = if term.coefficient == 0 then [] else term ∷ []

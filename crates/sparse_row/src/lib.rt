@@ -94,7 +94,12 @@ impl Row {
 
     /// Adds a residue to the coefficient of an integral. Where the sum is 0, the integral is shown no
     /// more. After a refusal the row is as before.
-    pub fn add_term(&mut self, integral: &Integral, addend: u64, modulus: &Modulus) -> Result<(), OutOfMemory>
+    pub fn add_term(
+        &mut self,
+        integral: &Integral,
+        addend: u64,
+        modulus: &Modulus,
+    ) -> Result<(), OutOfMemory>
         requires row { IsRow modulus.now self.old.order self.old }
         requires residue { addend < modulus.now }
         ensures sum { OnOk result
@@ -110,7 +115,12 @@ impl Row {
     /// Adds a multiple of another row of the same order. Integrals whose coefficients become 0 are
     /// shown no more; for a composite modulus a product of two coefficients other than 0 may be 0.
     /// After a refusal the row is as before.
-    pub fn add_multiple(&mut self, other: &Row, factor: u64, modulus: &Modulus) -> Result<(), OutOfMemory>
+    pub fn add_multiple(
+        &mut self,
+        other: &Row,
+        factor: u64,
+        modulus: &Modulus,
+    ) -> Result<(), OutOfMemory>
         requires row { IsRow modulus.now self.old.order self.old }
         requires other_row { IsRow modulus.now self.old.order other.now }
         requires residue { factor < modulus.now }
@@ -119,7 +129,14 @@ impl Row {
         ensures row { IsRow modulus.now self.old.order self.new }
         ensures err { OnErr result (self.new ≡ self.old) }
     {
-        let sum = terms::sum_with_multiple(*self.terms.allocator(), self.order, &self.terms, &other.terms, factor, modulus)?;
+        let sum = terms::sum_with_multiple(
+            *self.terms.allocator(),
+            self.order,
+            &self.terms,
+            &other.terms,
+            factor,
+            modulus,
+        )?;
         self.terms = sum;
         Ok(())
     }
@@ -158,6 +175,13 @@ impl Row {
         }
     }
 
+    /// Whether the row shows nothing.
+    pub fn is_empty(&self) -> bool
+        ensures { IsTrue result ↔ IsEmpty self.now }
+    {
+        self.terms.is_empty()
+    }
+
     /// The coefficient of an integral, and 0 where the row doesn't show it.
     pub fn coefficient(&self, x: &Integral) -> u64
         ensures { result ≡ coefficient self.now x.now }
@@ -191,6 +215,9 @@ impl Row {
     pub fn equals(&self, other: &Row) -> bool
         ensures { IsTrue result ↔ (self.now ≡ other.now) }
     {
-        self.order == other.order && terms::equal(&self.terms, &other.terms)
+        self.order == other.order && terms::equal(self.order, &self.terms, &other.terms)
     }
 }
+
+#[cfg(test)]
+mod tests;
