@@ -36,7 +36,7 @@ opposite_of p (Some c) false no_zero below =
     let small : (p - c) % p ≡ p - c = mod-eq_of_lt (omega arith) in
     absurd (omega arith)
 
-IsRow-empty : (p : ℕ) (order : Order) → 1 < p → IsRow p order (empty_row order)
+pub IsRow-empty : (p : ℕ) (order : Order) → 1 < p → IsRow p order (empty_row order)
 IsRow-empty p order large =
     record {
       ordered = refl;
@@ -44,7 +44,7 @@ IsRow-empty p order large =
       no_zero = λ x e. let none = map_of.get-empty {X = ℕ} by_fields x in cc;
     }
 
-IsRow-unit : (p : ℕ) (order : Order) (x : Integral) → 1 < p → IsRow p order (unit_row order x)
+pub IsRow-unit : (p : ℕ) (order : Order) (x : Integral) → 1 < p → IsRow p order (unit_row order x)
 IsRow-unit p order x large =
     record {
       ordered = refl;
@@ -56,7 +56,7 @@ IsRow-unit p order x large =
     not_zero true e = cc
     not_zero false e = cc
 
-IsRow-solved : (p : ℕ) (order : Order) (row : Row) (x : Integral) → 1 < p → IsRow p order row → IsRow p order (solved p row x)
+pub IsRow-solved : (p : ℕ) (order : Order) (row : Row) (x : Integral) → 1 < p → IsRow p order row → IsRow p order (solved p row x)
 IsRow-solved p order row x large is =
     record {
       ordered = is.ordered;
@@ -116,7 +116,7 @@ normal_form_is_equal p order zeros table x e nonzero =
     ] refl)
 
 -- what is added to both sides may be left out
-cancel : (p a b c : ℕ) → 0 < p → (a + c) % p ≡ (b + c) % p → a % p ≡ b % p
+pub cancel : (p a b c : ℕ) → 0 < p → (a + c) % p ≡ (b + c) % p → a % p ≡ b % p
 cancel p a b c large same =
     let t : ℕ = p - c % p in
     let small : c % p < p = mod-lt c large in

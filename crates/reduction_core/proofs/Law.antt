@@ -14,7 +14,7 @@ use Rattle.sparse_row.specs.Span.{combination}
 use Rattle.sparse_row.proofs.Spans.{at, IsSpanned, AllSpanned, combination-agree, combination-only, combination-some, IsSpanned-at}
 
 -- a number is 0 or not
-decided : (n : ℕ) → (n ≡ 0) ⊎ (n ≢ 0)
+pub decided : (n : ℕ) → (n ≡ 0) ⊎ (n ≢ 0)
 decided zero = inl refl
 decided (suc n) = inr (suc-ne-zero n)
 
@@ -40,7 +40,7 @@ neither Greater s e r t = absurd (r refl)
 
 module _ {K : Type 0} (R : K → K → Ordering) (o : IsTotalOrder R) (same : IsAntisymmetric R) (p : ℕ) where
   -- of two keys, each not greater than the other, there is only one
-  one_key : (x y : K) → R x y ≢ Greater → R y x ≢ Greater → x ≡ y
+  pub one_key : (x y : K) → R x y ≢ Greater → R y x ≢ Greater → x ≡ y
   one_key x y a b = same x y (neither (R x y) (R y x) (o.antisymm x y) a b)
 
   shown : (f : K → ℕ) (x : K) → IsTop R f x → f x ≢ 0

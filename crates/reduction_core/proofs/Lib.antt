@@ -5,3 +5,9 @@ pub mod Pivots
 pub mod NormalForms
 pub mod Differences
 pub mod Masters
+pub mod StepLemmas
+pub mod Shown
+pub mod Clearing
+pub mod Taking
+pub mod Backing
+pub mod TableRows

@@ -2,3 +2,9 @@
 #![tactic(auto)]
 
 pub mod laws;
+mod plain;
+mod steps;
+mod table;
+
+pub use plain::{ForwardFault, reduce_plain};
+pub use table::Table;

@@ -1,6 +1,6 @@
 -- Combinations of functions into the numbers, and what they span modulo p.
 -- A function is whatever gives each integral a coefficient; `RowSpans` has the same for rows.
-use Rattle.std.proofs.Common.{◌≡◌, ◌≢◌, ℕ, zero, suc, ◌+◌, ◌*◌, ◌%◌, ◌<◌, List, [], ◌∷◌, ◌++◌, length, get_or, refl, sym, ap, ◌∙◌, ◌⊎◌, inl, inr, arith, zero-add, add-zero}
+use Rattle.std.proofs.Common.{◌≡◌, ◌≢◌, ℕ, zero, suc, ◌+◌, ◌*◌, ◌%◌, ◌<◌, List, [], ◌∷◌, ◌++◌, length, get_or, refl, sym, ap, ◌∙◌, ◌⊎◌, inl, inr, arith, zero-add, add-zero, add_assoc}
 use Rattle.std.proofs.Math.Nat.{add-mod, zero-mod, zero-mul, one-mul, suc-ne-zero, add-mul, mul-add, mul_assoc, mul-zero}
 use Rattle.std.proofs.lemmas.Nat.{mul-mod_first, mul-mod_second}
 use Rattle.sparse_row.specs.Span.{combination}
@@ -78,6 +78,12 @@ module _ {K : Type 0} where
   pub combination-nothing : (fs : List (K → ℕ)) (x : K) → combination (λ _. 0) fs x ≡ 0
   combination-nothing [] x = refl
   combination-nothing (f ∷ fs) x = let rest = combination-nothing fs x in let here = zero-mul (f x) in omega arith
+
+  -- one function more
+  pub combination-push : (c : ℕ → ℕ) (fs : List (K → ℕ)) (f : K → ℕ) (x : K) → combination c (fs ++ f ∷ []) x ≡ combination c fs x + c (length fs) * f x
+  combination-push c [] f x = add-zero (c 0 * f x) ∙ sym (zero-add (c 0 * f x))
+  combination-push c (g ∷ fs) f x =
+      ap (λ u. c 0 * g x + u) (combination-push (λ k. c (suc k)) fs f x) ∙ sym (add_assoc (c 0 * g x) (combination (λ k. c (suc k)) fs x) (c (suc (length fs)) * f x))
 
 -- the function is a combination of the list, modulo p
 pub record IsSpanned {K : Type 0} (p : ℕ) (fs : List (K → ℕ)) (g : K → ℕ) : Type 0 where
