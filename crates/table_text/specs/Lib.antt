@@ -1,3 +1,4 @@
 pub mod Sending
 pub mod Pieces
 pub mod TableText
+pub mod Distinct

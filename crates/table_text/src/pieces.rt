@@ -12,7 +12,11 @@ use out_of_memory::OutOfMemory;
 use sparse_row::{Row, Term};
 
 /// Appends an integral, whose family has the name at its place.
-pub(crate) fn push_integral(text: &mut Vec<u8>, names: &[Text8], integral: &Integral) -> Result<(), OutOfMemory>
+pub(crate) fn push_integral(
+    text: &mut Vec<u8>,
+    names: &[Text8],
+    integral: &Integral,
+) -> Result<(), OutOfMemory>
     ensures { OnOk result (text.new.items ≡ text.old.items ++ integral_text (name_of names.now integral.now.family) integral.now) }
 {
     text.extend_from_slice(family_name(names, integral.family()).as_bytes())?;
@@ -62,7 +66,11 @@ fn push_index(text: &mut Vec<u8>, index: &i8) -> Result<(), OutOfMemory>
 }
 
 /// Appends the terms joined by plus signs, and 0 where there is none.
-pub(crate) fn push_sum(text: &mut Vec<u8>, names: &[Text8], terms: &[Term]) -> Result<(), OutOfMemory>
+pub(crate) fn push_sum(
+    text: &mut Vec<u8>,
+    names: &[Text8],
+    terms: &[Term],
+) -> Result<(), OutOfMemory>
     ensures { OnOk result (text.new.items ≡ text.old.items ++ sum_text (name_of names.now) (map entry_of terms.now)) }
 {
     let Some((first, rest)) = terms.split_first() else {

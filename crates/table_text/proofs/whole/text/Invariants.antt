@@ -1,0 +1,12 @@
+use Rattle.std.proofs.Common.{◌≡◌, take}
+use Rattle.std.specs.List.{flat_map}
+use Rattle.table_text.specs.Pieces.{line_text, name_of}
+use Rattle.table_text.specs.TableText.{form_of, shown_integrals, zeros_of}
+use Rattle.table_text.proofs.whole.text.Given as goal
+
+abbrev pub invariant-loop-integral : goal.invariant-loop-integral
+invariant-loop-integral l =
+    record {
+      text : l.text.items ≡ flat_map (λ x. line_text (name_of l.names) x (form_of (zeros_of l.zeros) l.table x)) (take l.integral-index l.selection);
+      shown : l.shown.items ≡ flat_map (λ x. shown_integrals (form_of (zeros_of l.zeros) l.table x)) (take l.integral-index l.selection);
+    }
