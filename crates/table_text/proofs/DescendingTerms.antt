@@ -1,8 +1,8 @@
 -- The terms of a row from the greatest to the least are the terms that a row keeps.
-use Rattle.std.proofs.Common.{◌≡◌, ℕ, suc, ◌<◌, Bool, true, false, ◌&&◌, T, List, [], ◌∷◌, length, map, refl, sym, ap, subst, ◌∙◌, cond, arith, get_or, Some}
+use Rattle.std.proofs.Common.{◌≡◌, ℕ, suc, ◌<◌, true, ◌&&◌, T, List, [], ◌∷◌, length, map, refl, sym, ap, subst, ◌∙◌, cond, arith, get_or, Some}
 use Rattle.std.specs.Prelude.{AllPairs}
 use Rattle.std.specs.declared.cmp.Ordering.{Ordering}
-use Rattle.std.specs.declared.cmp.Ordering.TheVariants.{Less, Equal, Greater}
+use Rattle.std.specs.declared.cmp.Ordering.TheVariants.{Less}
 use Rattle.std.specs.Ordering.{eq_by_cmp, is_eq, is_lt, flip_args, ordering_reverse}
 use Rattle.std.specs.Cmp.{IsTotalOrder, both_ways, Equal-is}
 use Rattle.std.proofs.lemmas.Cmp.{back_total, tied_itself, tied_back}
@@ -10,13 +10,13 @@ use Rattle.std.specs.FinMap as finite
 use Rattle.std.specs.FinMap.{IsAntisymmetric, find, is_sorted}
 use Rattle.std.specs.FinMap.Entries.{below_all}
 use Rattle.integral_index.specs.declared.Order.{Order}
-use Rattle.integral_index.specs.Integral.{Integral}
 use Rattle.integral_index.specs.Order.{by_fields, compare}
 use Rattle.integral_index.proofs.Orders.{by_fields-total, by_fields-IsAntisymmetric, compare-total, compare-IsAntisymmetric}
 use Rattle.sparse_row.specs.declared.Term.{Term}
 use Rattle.sparse_row.specs.Row.{Row}
 use Rattle.sparse_row.specs.Terms.{IsTermList, IsAbove, entry_of, row_of}
 use Rattle.table_text.specs.Pieces.{descending_terms}
+use Rattle.table_text.specs.TableText.{shown_integrals}
 
 -- what ties under one comparison is the same, and so it ties under the other
 ties_too : {K : Type 0} (R S : K → K → Ordering) → IsAntisymmetric R → IsTotalOrder S → (x y : K) → is_eq (R x y) ≡ true → is_eq (S x y) ≡ true
@@ -53,7 +53,7 @@ module _ (order : Order) where
       λ i. below-entries term rest (λ j d h. descend 0 (suc j) d (omega arith) (omega arith)) i
       && sorted-entries rest (λ j k d h within. descend (suc j) (suc k) d (omega arith) (omega arith)) i
 
-  flipped : IsAntisymmetric (flip_args (compare order))
+  pub flipped : IsAntisymmetric (flip_args (compare order))
   flipped x y e = compare-IsAntisymmetric order x y (tied_back (back_total (compare-total order)) x y e)
 
   pub descending_terms-row_of : (terms : List Term) → IsTermList order terms → descending_terms (row_of order terms) ≡ map entry_of terms
@@ -64,3 +64,11 @@ module _ (order : Order) where
 -- the terms that a row hands out
 pub descending_terms-is : (order : Order) (terms : List Term) (row : Row) → IsTermList order terms → row_of order terms ≡ row → descending_terms row ≡ map entry_of terms
 descending_terms-is order terms row list is = ap descending_terms (sym is) ∙ descending_terms-row_of order terms list
+
+entry_integrals : (terms : List Term) → map (λ entry. entry.0) (map entry_of terms) ≡ map (λ term. term.integral) terms
+entry_integrals [] = refl
+entry_integrals (term ∷ rest) = λ i. term.integral ∷ entry_integrals rest i
+
+-- the integrals that a row shows are those of its terms
+pub shown_integrals-is : (order : Order) (terms : List Term) (row : Row) → IsTermList order terms → row_of order terms ≡ row → shown_integrals row ≡ map (λ term. term.integral) terms
+shown_integrals-is order terms row list is = ap (map (λ entry. entry.0)) (descending_terms-is order terms row list is) ∙ entry_integrals terms

@@ -1,6 +1,6 @@
 -- The texts of sums and lines over terms as a row keeps them.
-use Rattle.std.proofs.Common.{◌≡◌, ℕ, List, ◌∷◌, ◌++◌, map, codes, refl, sym, ap, ◌∙◌}
-use Rattle.std.specs.List.{join_by, flat_map}
+use Rattle.std.proofs.Common.{◌≡◌, ℕ, List, ◌∷◌, ◌++◌, map, codes, sym, ap}
+use Rattle.std.specs.List.{join_by}
 use Rattle.std.proofs.lemmas.List.Folds.{flat_map-map}
 use Rattle.sparse_row.specs.declared.Term.{Term}
 use Rattle.sparse_row.specs.Terms.{entry_of}

@@ -5,7 +5,6 @@ use Rattle.std.specs.Fmt.{signed_decimal}
 use Rattle.std.specs.List.{join_by}
 use Rattle.std.specs.FinMap as map
 use Rattle.std.specs.Ordering.{flip_args}
-use Rattle.integral_index.specs.declared.Order.{Order}
 use Rattle.integral_index.specs.Integral.{Integral}
 use Rattle.integral_index.specs.Order.{compare}
 use Rattle.sparse_row.specs.Row.{Row}

@@ -1,6 +1,6 @@
 -- The text of a table for a selection: a line for each selected integral, and then the masters.
 -- The format is the project's own.
-use Rattle.std.specs.Prelude.{ℕ, List, [], ◌∷◌, ◌++◌, length, map, codes, decimal, slice_index_or}
+use Rattle.std.specs.Prelude.{ℕ, List, [], ◌++◌, length, map, codes, decimal, slice_index_or}
 use Rattle.std.specs.List.{flat_map}
 use Rattle.integral_index.specs.Integral.{Integral}
 use Rattle.sparse_row.specs.Row.{Row}

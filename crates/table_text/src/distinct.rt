@@ -4,7 +4,7 @@ ghost use Rattle.std.specs.List.Sorted.{IsSorted};
 ghost use Rattle.integral_index.specs.Integral.{Integral as IntegralValue};
 ghost use Rattle.integral_index.specs.Order.{compare};
 ghost use Rattle.table_text.specs.TableText.{shown_integrals};
-ghost use Rattle.table_text.specs.Distinct.{IsLess, IsLast};
+ghost use Rattle.table_text.specs.Distinct.{IsLess, IsLast, IsPushedOnce};
 
 use integral_index::{Integral, Order};
 use out_of_memory::OutOfMemory;
@@ -47,19 +47,25 @@ fn without_repeats(
 {
     let mut kept: Vec<Integral> = Vec::new(alloc);
     for integral in sorted {
-        if !is_last(&kept, integral, order) {
-            kept.push(*integral)?;
-        }
+        push_once(&mut kept, integral, order)?;
     }
     Ok(kept)
+}
+
+// Appends an integral, unless it is the last.
+fn push_once(kept: &mut Vec<Integral>, integral: &Integral, order: Order) -> Result<(), OutOfMemory>
+    ensures { OnOk result (IsPushedOnce kept.old.items integral.now kept.new.items) }
+{
+    if is_last(kept, integral, order) {
+        return Ok(());
+    }
+    kept.push(*integral)?;
+    Ok(())
 }
 
 // Whether the integral is the last of the list.
 fn is_last(kept: &[Integral], integral: &Integral, order: Order) -> bool
     ensures { IsTrue result ↔ IsLast kept.now integral.now }
 {
-    match kept.last() {
-        Some(last) => order.compare(last, integral).is_eq(),
-        None => false,
-    }
+    !kept.is_empty() && order.compare(&kept[kept.len() - 1], integral).is_eq()
 }

@@ -54,7 +54,7 @@ pub fn masters(
         let form = table.normal_form(integral, &zeros[integral.family() as usize])?;
         push_shown(&mut shown, &form)?;
     }
-    ascending(alloc, shown, table.order())
+    Ok(ascending(alloc, shown, table.order())?)
 }
 
 // Appends how many masters there are, and a line for each.

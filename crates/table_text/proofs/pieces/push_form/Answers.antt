@@ -1,4 +1,4 @@
-use Rattle.std.proofs.Common.{◌≡◌, ◌++◌, sym, ◌∙◌, ap}
+use Rattle.std.proofs.Common.{◌++◌, sym, ◌∙◌, ap}
 use Rattle.table_text.specs.Pieces.{name_of, sum_text}
 use Rattle.table_text.proofs.DescendingTerms.{descending_terms-is}
 use Rattle.table_text.proofs.pieces.push_form.Goals as goal

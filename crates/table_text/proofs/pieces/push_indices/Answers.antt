@@ -1,4 +1,4 @@
-use Rattle.std.proofs.Common.{◌≡◌, ◌++◌, ◌∷◌, refl, sym, ◌∙◌, ap, codes, pos, get_or, arith}
+use Rattle.std.proofs.Common.{◌++◌, refl, sym, ◌∙◌, ap, codes, pos, get_or, arith}
 use Rattle.std.specs.Fmt.{signed_decimal}
 use Rattle.std.specs.List.{join_by}
 use Rattle.table_text.proofs.AppendedPieces.{appended_more, all_appended, joined}

@@ -1,4 +1,4 @@
-use Rattle.std.proofs.Common.{◌≡◌, ◌++◌, ℕ, List, codes, take}
+use Rattle.std.proofs.Common.{◌≡◌, ◌++◌, codes, take}
 use Rattle.std.specs.Fmt.{signed_decimal}
 use Rattle.std.specs.List.{flat_map}
 use Rattle.table_text.proofs.pieces.push_indices.Given as goal

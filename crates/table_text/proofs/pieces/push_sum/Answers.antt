@@ -1,4 +1,4 @@
-use Rattle.std.proofs.Common.{◌≡◌, ◌++◌, ◌∷◌, map, sym, ◌∙◌, ap, codes, arith}
+use Rattle.std.proofs.Common.{◌++◌, map, sym, ◌∙◌, ap, codes, arith}
 use Rattle.sparse_row.specs.Terms.{entry_of}
 use Rattle.table_text.specs.Pieces.{name_of, term_text, sum_text}
 use Rattle.table_text.proofs.AppendedPieces.{all_appended, joined}

@@ -1,4 +1,4 @@
-use Rattle.std.proofs.Common.{◌≡◌, ◌-◌, ◌∙◌, ap, arith, ℕ, length, take, drop, option_map, length-take, length-drop}
+use Rattle.std.proofs.Common.{◌-◌, ◌∙◌, ap, arith, length, take, drop, option_map, length-drop}
 use Rattle.kira_outside.specs.Stream.{appended}
 use Rattle.table_text.proofs.SendingLemmas.{rest-drop, appended-take-add}
 use Rattle.table_text.proofs.sending.write_all.Goals as goal
