@@ -1,6 +1,5 @@
 -- What the row of a list of terms shows, and when two rows are equal.
-use Rattle.std.proofs.Common.{◌≡◌, ◌≢◌, ℕ, suc, ◌+◌, ◌<◌, Bool, true, false, cond, List, [], ◌∷◌, ◌++◌, map, length, get_or, take, drop, Option, Some, None, unwrap_or, refl, sym, ap, subst, ◌∙◌, arith, add-zero, zero-add, take-append-drop}
-use Rattle.std.specs.Prelude.{All}
+use Rattle.std.proofs.Common.{◌≡◌, ◌≢◌, ℕ, ◌+◌, ◌<◌, cond, List, [], ◌∷◌, ◌++◌, map, length, get_or, take, drop, Option, Some, None, unwrap_or, refl, sym, ap, subst, ◌∙◌, arith, add-zero, zero-add, take-append-drop}
 use Rattle.std.specs.List.{AllByRecursion}
 use Rattle.std.specs.FinMap as finite
 use Rattle.std.specs.declared.cmp.Ordering.{Ordering}
@@ -13,9 +12,9 @@ use Rattle.integral_index.specs.Integral.{Integral}
 use Rattle.integral_index.specs.Order.{by_fields, compare}
 use Rattle.integral_index.proofs.Orders.{by_fields-total, by_fields-IsAntisymmetric, compare-IsAntisymmetric}
 use Rattle.sparse_row.specs.declared.Term.{Term}
-use Rattle.sparse_row.specs.Row.{Row, coefficient, Shows, IsRow, IsEmpty, IsGreatest}
+use Rattle.sparse_row.specs.Row.{Row, coefficient, IsRow, IsEmpty, IsGreatest}
 use Rattle.sparse_row.specs.Terms.{total_at, coefficient_at, entry_of, row_of, IsTermList, AllBelow}
-use Rattle.sparse_row.proofs.TermLists.{differ-from_Greater, Greater-from_Less, eq_by_fields-differ, eq_by_fields-itself, coefficient_at-itself, coefficient_at-same, coefficient_at-other, by_integrals, total_at-cons, total_at-append, total_at-under, total_at-over, each-weaker, AllUnder, AllUnder-lower, AllOver-front, Descends, Descends-from_pairs, pairs_from_Descends, Descends-back}
+use Rattle.sparse_row.proofs.TermLists.{Greater-from_Less, eq_by_fields-differ, eq_by_fields-itself, coefficient_at-itself, coefficient_at-other, by_integrals, total_at-cons, total_at-append, total_at-under, total_at-over, AllUnder-lower, AllOver-front, Descends, Descends-from_pairs, pairs_from_Descends, Descends-back}
 
 -- ---- the terms of a descending list
 

@@ -1,5 +1,5 @@
 -- What an edit of a descending list of terms at one place leaves.
-use Rattle.std.proofs.Common.{◌≡◌, ◌≢◌, ℕ, suc, ◌+◌, ◌<◌, ◌≤◌, List, [], ◌∷◌, ◌++◌, length, get_or, set, take, drop, refl, sym, ap, subst, ◌∙◌, arith, add-one, take-append-drop}
+use Rattle.std.proofs.Common.{◌≡◌, ◌≢◌, ℕ, suc, ◌+◌, ◌<◌, List, [], ◌∷◌, ◌++◌, length, get_or, set, take, drop, sym, ap, subst, ◌∙◌, arith, add-one, take-append-drop}
 use Rattle.std.specs.Prelude.{All}
 use Rattle.std.specs.List.{AllByRecursion}
 use Rattle.std.specs.declared.cmp.Ordering.TheVariants.{Less, Greater}
@@ -9,10 +9,10 @@ use Rattle.integral_index.specs.declared.Order.{Order}
 use Rattle.integral_index.specs.Integral.{Integral}
 use Rattle.integral_index.specs.Order.{compare}
 use Rattle.sparse_row.specs.declared.Term.{Term}
-use Rattle.sparse_row.specs.Row.{Row, coefficient}
-use Rattle.sparse_row.specs.Terms.{coefficient_at, total_at, IsAbove, IsTermList, row_of}
-use Rattle.sparse_row.proofs.TermLists.{Greater-from_Less, coefficient_at-itself, coefficient_at-other, total_at-cons, total_at-append, total_at-under, total_at-over, each-weaker, each-append, each-front, each-back, AllUnder, AllOver, AllOver-front, Descends, Descends-from_pairs, pairs_from_Descends, Descends-back, Descends-insert}
-use Rattle.sparse_row.proofs.RowValues.{around, total_at-middle, total_at-place, coefficient-row_of}
+use Rattle.sparse_row.specs.Row.{coefficient}
+use Rattle.sparse_row.specs.Terms.{coefficient_at, total_at, IsTermList, row_of}
+use Rattle.sparse_row.proofs.TermLists.{Greater-from_Less, coefficient_at-other, total_at-cons, total_at-append, total_at-under, total_at-over, each-weaker, each-append, each-front, each-back, AllUnder, AllOver, AllOver-front, Descends, Descends-from_pairs, pairs_from_Descends, Descends-back, Descends-insert}
+use Rattle.sparse_row.proofs.RowValues.{around, total_at-middle, coefficient-row_of}
 
 abbrev Under : Order → Term → Term → Type 0
 Under order t u = compare order t.integral u.integral ≡ Greater

@@ -1,6 +1,6 @@
 -- The merge of two descending lists: the sum of the one and a multiple of the other, as far as they are read.
 use Rattle.std.proofs.Common.{◌≡◌, ◌≢◌, ◌==◌, ℕ, ◌+◌, ◌*◌, ◌%◌, ◌<◌, ◌≤◌, Bool, true, false, cond, List, [], ◌∷◌, ◌++◌, length, get_or, take, drop, refl, sym, ap, subst, ◌∙◌, ◌⊎◌, inl, inr, arith, add-zero, append-nil, append_assoc, add_assoc, mul_comm, take-append-drop}
-use Rattle.std.proofs.Math.Nat.{mod-add-mod, add-mod-mod, mod-eq_of_lt, mod-mod, mod-lt}
+use Rattle.std.proofs.Math.Nat.{mod-add-mod, add-mod-mod, mod-eq_of_lt, mod-lt}
 use Rattle.std.specs.List.{AllByRecursion, flat_map}
 use Rattle.std.specs.Ordering.{eq_by_cmp}
 use Rattle.std.specs.declared.cmp.Ordering.TheVariants.{Less, Equal, Greater}
@@ -12,7 +12,7 @@ use Rattle.integral_index.specs.Order.{by_fields, compare}
 use Rattle.integral_index.proofs.Orders.{compare-IsAntisymmetric}
 use Rattle.sparse_row.specs.declared.Term.{Term}
 use Rattle.sparse_row.specs.Terms.{coefficient_at, total_at, scaled_term, summed_term, kept_term}
-use Rattle.sparse_row.proofs.TermLists.{Greater-from_Less, total_at-append, total_at-one, each-weaker, each-append, AllUnder, AllUnder-lower, AllOver, Descends, Descends-push, Descends-append}
+use Rattle.sparse_row.proofs.TermLists.{Greater-from_Less, total_at-append, total_at-one, each-weaker, each-append, AllUnder, AllUnder-lower, AllOver, Descends-push, Descends-append}
 use Rattle.sparse_row.proofs.RowValues.{IsTerms, total_at-below}
 
 -- ---- numbers modulo p

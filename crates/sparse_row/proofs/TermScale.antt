@@ -1,19 +1,18 @@
 -- A descending list of terms, each times one factor modulo p.
-use Rattle.std.proofs.Common.{◌≡◌, ◌≢◌, ℕ, ◌+◌, ◌*◌, ◌%◌, ◌<◌, Bool, true, false, cond, List, [], ◌∷◌, map, length, get_or, refl, sym, ap, subst, ◌∙◌, arith, mul_comm, mul_assoc}
+use Rattle.std.proofs.Common.{◌≡◌, ◌≢◌, ℕ, ◌+◌, ◌*◌, ◌%◌, ◌<◌, Bool, true, false, cond, List, [], ◌∷◌, map, length, get_or, sym, ap, subst, ◌∙◌, arith}
 use Rattle.std.proofs.Math.Nat.{mod-add-mod, add-mod-mod, mod-eq_of_lt, zero-mod, zero-mul, mul-one, mod-lt}
 use Rattle.std.proofs.lemmas.Nat.{mul-mod_first, mul-mod_second}
 use Rattle.std.specs.List.{AllByRecursion}
 use Rattle.std.specs.Ordering.{eq_by_cmp}
-use Rattle.std.specs.declared.cmp.Ordering.TheVariants.{Greater}
 use Rattle.field_word.specs.Residues.{IsInverse}
 use Rattle.integral_index.specs.declared.Order.{Order}
 use Rattle.integral_index.specs.Integral.{Integral}
-use Rattle.integral_index.specs.Order.{by_fields, compare}
+use Rattle.integral_index.specs.Order.{by_fields}
 use Rattle.sparse_row.specs.declared.Term.{Term}
-use Rattle.sparse_row.specs.Row.{Row, coefficient, Shows, IsRow, IsEmpty, IsGreatest, IsPivot}
-use Rattle.sparse_row.specs.Terms.{coefficient_at, total_at, scaled_term, IsTermList, AllBelow, row_of}
+use Rattle.sparse_row.specs.Row.{Row, coefficient, IsEmpty, IsGreatest, IsPivot}
+use Rattle.sparse_row.specs.Terms.{total_at, scaled_term, IsTermList, row_of}
 use Rattle.sparse_row.proofs.TermLists.{total_at-cons, AllUnder, Descends, Descends-from_pairs}
-use Rattle.sparse_row.proofs.RowValues.{IsTerms, IsTerms-from_list, total_at-below, coefficient-row_of, IsRow-row_of, IsGreatest-head, greatest_same, total_at-head, IsEmpty-row_of}
+use Rattle.sparse_row.proofs.RowValues.{IsTerms, total_at-below, coefficient-row_of, IsGreatest-head, greatest_same, total_at-head, IsEmpty-row_of}
 
 -- a residue other than 0 times a number with an inverse
 product_nonzero : (p c g inverse : ℕ) → c < p → c ≢ 0 → (g * inverse) % p ≡ 1 → (c * inverse) % p ≢ 0

@@ -1,9 +1,8 @@
-use Rattle.std.proofs.Common.{◌≡◌, ◌≢◌, ◌*◌, ◌%◌, ◌<◌, length, map, ap, sym, subst, ◌∙◌, refl, arith}
+use Rattle.std.proofs.Common.{◌≢◌, ◌<◌, length, map, ap, sym, subst, ◌∙◌, refl, arith}
 use Rattle.std.specs.Int.{IsGcd}
 use Rattle.std.proofs.lemmas.Bool.{false≢true}
 use Rattle.std.proofs.lemmas.Result.{err_from_is_err_and}
 use Rattle.field_word.specs.Residues.{IsInverse}
-use Rattle.integral_index.specs.Integral.{Integral}
 use Rattle.sparse_row.specs.declared.Term.{Term}
 use Rattle.sparse_row.specs.Row.{coefficient, IsRow, IsEmpty, IsGreatest, IsPivot}
 use Rattle.sparse_row.specs.Terms.{row_of, scaled_term, AllBelow}

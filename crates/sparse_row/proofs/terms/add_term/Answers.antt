@@ -1,6 +1,5 @@
 use Rattle.std.proofs.Common.{◌≡◌, ◌+◌, ◌%◌, ap, sym, ◌∙◌, refl, zero-add, arith}
 use Rattle.std.proofs.Math.Nat.{zero-mod, mod-eq_of_lt}
-use Rattle.integral_index.specs.Integral.{Integral}
 use Rattle.sparse_row.specs.declared.Term.{Term}
 use Rattle.sparse_row.specs.Terms.{total_at}
 use Rattle.sparse_row.proofs.TermEdits.{total_at-of_place, total_at-removed_same, total_at-removed_other, IsTermList-put, total_at-put_same, total_at-put_other, total_at-absent, IsTermList-insert, total_at-inserted_same, total_at-inserted_other}

@@ -1,4 +1,4 @@
-use Rattle.std.proofs.Common.{◌+◌, ◌<◌, ◌≤◌, ◌⊎◌, inl, inr, [], length, ap, sym, arith}
+use Rattle.std.proofs.Common.{◌≤◌, ◌⊎◌, inl, inr, [], length, sym, arith}
 use Rattle.std.proofs.lemmas.List.{take_rest}
 use Rattle.sparse_row.proofs.RowValues.{IsTerms-from_list, list_from_IsTerms, below_from_IsTerms}
 use Rattle.sparse_row.proofs.TermMerge.{Merging, Merging-none, Merging-Greater, Merging-Less, Merging-Equal, Merging-rest, Merging-all}
