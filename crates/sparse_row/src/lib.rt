@@ -6,6 +6,7 @@ use integral_index::{Integral, Order};
 use out_of_memory::OutOfMemory;
 use std::alloc::Global;
 use std::marker::Model;
+pub use terms::is_term_list;
 
 mod terms;
 
@@ -63,8 +64,8 @@ impl Row {
         }
     }
 
-    /// The row of these terms, which descend strictly in this order and have no coefficient 0. It
-    /// takes no memory.
+    /// The row of these terms, which descend strictly in this order and have no coefficient 0, as
+    /// `is_term_list` tests. It takes no memory.
     pub fn from_terms(order: Order, terms: Vec<Term>) -> Row
         requires { IsTermList order terms.items }
         ensures value { result ≡ row_of order terms.items }
