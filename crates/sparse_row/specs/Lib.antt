@@ -3,3 +3,4 @@ pub mod Span
 pub mod ReducedList
 pub mod Terms
 pub mod KeptRow
+pub mod Laws

@@ -8,6 +8,7 @@ use std::alloc::Global;
 use std::marker::Model;
 pub use terms::is_term_list;
 
+pub mod laws;
 mod terms;
 
 /// A coefficient, a residue modulo some p, times an integral.
