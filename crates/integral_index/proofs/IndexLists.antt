@@ -1,14 +1,13 @@
 -- Facts on the numbers that are read from a list of indices.
-use Rattle.std.proofs.Common.{◌≡◌, ℕ, suc, ◌+◌, ◌*◌, ◌^◌, ◌<◌, ◌≤◌, Bool, true, false, cond, ℤ, pos, ◌<ℤ◌, ◌≤ℤ◌, List, [], ◌∷◌, ◌++◌, length, get_or, take, sum_by, count_by, All, refl, sym, ap, ◌∙◌, arith, rules, add_comm, lit<}
+use Rattle.std.proofs.Common.{◌≡◌, ℕ, suc, ◌+◌, ◌*◌, ◌^◌, ◌<◌, ◌≤◌, Bool, true, false, cond, ℤ, pos, ◌<ℤ◌, ◌≤ℤ◌, List, [], ◌∷◌, ◌++◌, length, get_or, take, refl, sym, ap, ◌∙◌, arith, add_comm, lit<}
 use Rattle.std.proofs.lemmas.List.{take_more, length-take-le}
 use Rattle.std.proofs.lemmas.List.Sums.{sum_by-cons, sum_by-le, count_by-le-length}
-use Rattle.std.proofs.lemmas.List.Elements.{All-get_or}
 use Rattle.std.proofs.lemmas.Nat.{ones_cat}
 use Rattle.std.proofs.lemmas.Bool.Decides.{nat_tests}
 use Rattle.std.specs.Prelude.{count_ones}
 use Rattle.std.specs.Int.Count.{ones, ones_in}
 use Rattle.std.proofs.Math.Nat.{pow-suc}
-use Rattle.integral_index.specs.Integral.{positive_part, negative_part, is_positive, IsIndex, IsIndexList, sector_of, t_of, r_of, s_of}
+use Rattle.integral_index.specs.Integral.{positive_part, negative_part, is_positive, IsIndexList, sector_of, t_of, r_of, s_of}
 
 bit_next : (b s more n : ℕ) (positive : Bool) → more ≡ s + cond positive (2 ^ n) 0 → b + 2 * more ≡ b + 2 * s + cond positive (2 ^ suc n) 0
 bit_next b s more n true e = rw pow-suc (omega arith)

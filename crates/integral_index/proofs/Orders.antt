@@ -1,11 +1,11 @@
 -- The laws of the comparisons. The proofs above this crate cite them.
-use Rattle.std.proofs.Common.{◌≡◌, ◌≢◌, ℕ, ℤ, List, refl, sym, ap, ◌∙◌, rules, arith}
+use Rattle.std.proofs.Common.{◌≡◌, ◌≢◌, refl, sym, ap, ◌∙◌}
 use Rattle.std.specs.Cmp.{IsTotalOrder}
 use Rattle.std.specs.Cmp.Lexicographic.{slice_cmp}
 use Rattle.std.specs.FinMap.{IsAntisymmetric, nat_cmp-IsAntisymmetric, int_cmp-IsAntisymmetric, slice_cmp-IsAntisymmetric}
 use Rattle.std.specs.declared.cmp.Ordering.{Ordering}
 use Rattle.std.specs.declared.cmp.Ordering.TheVariants.{Less, Equal, Greater}
-use Rattle.std.specs.Ordering.{nat_cmp, int_cmp, on, then_cmp, ordering_then}
+use Rattle.std.specs.Ordering.{nat_cmp, int_cmp, ordering_then}
 use Rattle.std.specs.Prelude.{count_ones}
 use Rattle.std.proofs.lemmas.Cmp.{nat_cmp_total, int_cmp_total, on_total, then_total, lists_total, tied_itself}
 use Rattle.integral_index.specs.declared.Order.{Order}
@@ -13,7 +13,7 @@ use Rattle.integral_index.specs.declared.Order.TheVariants.{Standard}
 use Rattle.integral_index.specs.declared.Unit.{Unit}
 use Rattle.integral_index.specs.Integral.{Integral, sector_of, t_of, r_of, s_of}
 use Rattle.integral_index.specs.Order.{by_fields, unit_of, unit_compare, standard_compare, compare}
-use Rattle.integral_index.specs.Laws.{OrderTellsApart, OrderRefinesUnits, UnitOrderTellsApart, FieldsTellApart}
+use Rattle.integral_index.specs.Laws.{OrderRefinesUnits}
 use Rattle.integral_index.proofs.IndexLists.{count_ones-sector_of}
 
 Equal-parts : (a b : Ordering) → ordering_then a b ≡ Equal → (a ≡ Equal) × (b ≡ Equal)

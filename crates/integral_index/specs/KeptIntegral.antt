@@ -1,5 +1,5 @@
 -- How an integral is kept: its indices in place with zeros behind, and the numbers by which it is compared beside them.
-use Rattle.std.specs.Prelude.{◌≡◌, ℕ, ◌-◌, ◌≤◌, ℤ, pos, List, ◌++◌, length, All, replicate, refl}
+use Rattle.std.specs.Prelude.{◌≡◌, ◌-◌, ◌≤◌, ℤ, pos, List, ◌++◌, length, replicate}
 use Rattle.std.proofs.Common.{arith, sym, ap, ◌∙◌, take, drop, take-append-drop, length-take-le}
 use Rattle.integral_index.specs.declared.integrals.Integral.TheInside.{Inside}
 use Rattle.integral_index.specs.Integral.{Integral, IsIndexList, sector_of, t_of, r_of, s_of}

@@ -1,5 +1,5 @@
 -- Lists of terms from the greatest integral to the least, and the sums of their coefficients.
-use Rattle.std.proofs.Common.{◌≡◌, ◌≢◌, ℕ, suc, ◌+◌, ◌<◌, ◌≤◌, true, false, cond, List, [], ◌∷◌, ◌++◌, length, get_or, refl, sym, ap, ◌∙◌, inl, inr, arith, add-zero}
+use Rattle.std.proofs.Common.{◌≡◌, ◌≢◌, ℕ, suc, ◌+◌, ◌<◌, ◌≤◌, true, false, cond, List, [], ◌∷◌, ◌++◌, length, get_or, refl, sym, ap, ◌∙◌, inl, inr, arith, add-zero, ◌-◌, take, subst, get_or-take, length-take-le}
 use Rattle.std.specs.Prelude.{AllPairs}
 use Rattle.std.specs.List.{AllByRecursion}
 use Rattle.std.specs.declared.cmp.Ordering.{Ordering}
@@ -7,7 +7,8 @@ use Rattle.std.specs.declared.cmp.Ordering.TheVariants.{Less, Equal, Greater}
 use Rattle.std.specs.Ordering.{ordering_reverse, is_eq, eq_by_cmp}
 use Rattle.std.proofs.lemmas.Bool.{cases_lt}
 use Rattle.std.proofs.lemmas.Cmp.{tied_itself}
-use Rattle.std.proofs.lemmas.List.{get_or_default}
+use Rattle.std.proofs.lemmas.List.{get_or_default, take_more}
+use Rattle.std.proofs.lemmas.List.Quantifiers.{all_pairs_push}
 use Rattle.std.proofs.lemmas.List.Kept.{AllPairs-cons}
 use Rattle.std.proofs.lemmas.List.Elements.{All-from_recursion, recursion_from_All}
 use Rattle.std.proofs.lemmas.List.Sums.{sum_by-cons, sum_by-append}
@@ -198,3 +199,22 @@ under_from order ts x m d pairs within under k e from below =
 -- two terms with the same integral and coefficient are the same term
 pub same_term : (order : Order) (t u : Term) → compare order t.integral u.integral ≡ Equal → t.coefficient ≡ u.coefficient → t ≡ u
 same_term order t u e c = let same = compare-IsAntisymmetric order t.integral u.integral e in λ i. record { integral = same i; coefficient = c i }
+
+-- ---- neighbours
+
+-- the neighbours of a descending list descend
+pub above_next : (order : Order) (ts : List Term) (i : ℕ) (s t : Term) → 0 < i → i < length ts → s ≡ get_or ts (i - 1) s → t ≡ get_or ts i t → AllPairs (IsAbove order) ts → IsAbove order s t
+above_next order ts i s t some within s_is t_is pairs =
+    let pair : IsAbove order (get_or ts (i - 1) s) (get_or ts i s) = pairs (i - 1) i s (omega arith) within in
+    let next : get_or ts i s ≡ t = get_or_default ts i s t within ∙ sym t_is in
+    subst (λ (u : Term). IsAbove order s u) next (subst (λ (u : Term). IsAbove order u (get_or ts i s)) (sym s_is) pair)
+
+-- a list descends where its neighbours do
+pub pairs_more : (order : Order) (ts : List Term) (i : ℕ) (s t : Term) → 0 < i → i < length ts → s ≡ get_or ts (i - 1) s → t ≡ get_or ts i t → IsAbove order s t → AllPairs (IsAbove order) (take i ts) → AllPairs (IsAbove order) (take (i + 1) ts)
+pairs_more order ts i s t some within s_is t_is above pairs =
+    let count : length (take i ts) ≡ i = length-take-le i ts (omega arith) in
+    let last : get_or (take i ts) (i - 1) s ≡ s = get_or-take i ts (i - 1) s (omega arith) ∙ sym s_is in
+    let at : compare order (get_or (take i ts) (i - 1) s).integral t.integral ≡ Greater = ap (λ (u : Term). compare order u.integral t.integral) last ∙ above in
+    let all : (k : ℕ) (d : Term) → k < length (take i ts) → IsAbove order (get_or (take i ts) k d) t = λ k d below. above_up_to order (take i ts) t.integral (i - 1) s pairs (omega arith) at k d (omega arith) in
+    let more : take (i + 1) ts ≡ take i ts ++ t ∷ [] = take_more ts i t within ∙ ap (λ u. take i ts ++ u ∷ []) (sym t_is) in
+    subst (AllPairs (IsAbove order)) (sym more) (all_pairs_push (IsAbove order) (take i ts) t pairs all)

@@ -4,3 +4,4 @@ pub mod ReducedList
 pub mod Terms
 pub mod KeptRow
 pub mod SumOfTerms
+pub mod Laws

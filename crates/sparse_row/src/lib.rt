@@ -6,7 +6,9 @@ use integral_index::{Integral, Order};
 use out_of_memory::OutOfMemory;
 use std::alloc::Global;
 use std::marker::Model;
+pub use terms::is_term_list;
 
+pub mod laws;
 mod terms;
 
 /// A coefficient, a residue modulo some p, times an integral.
@@ -65,8 +67,8 @@ impl Row {
         }
     }
 
-    /// The row of these terms, which descend strictly in this order and have no coefficient 0. It
-    /// takes no memory.
+    /// The row of these terms, which descend strictly in this order and have no coefficient 0, as
+    /// `is_term_list` tests. It takes no memory.
     pub fn from_terms(order: Order, terms: Vec<Term>) -> Row
         requires { IsTermList order terms.items }
         ensures value { result ≡ row_of order terms.items }

@@ -1,11 +1,11 @@
 //! Lists of terms, from the greatest integral to the least.
 
-ghost use Rattle.std.specs.Prelude.{◌≡◌, ◌≢◌, ◌+◌, ◌*◌, ◌%◌, ◌<◌, ◌≤◌, ◌↔◌, ◌++◌, ℕ, map, length, take, drop, All, IsTrue, IfOk, IfErr, OnOk, OnErr};
+ghost use Rattle.std.specs.Prelude.{◌≡◌, ◌≢◌, ◌+◌, ◌*◌, ◌%◌, ◌<◌, ◌≤◌, ◌↔◌, ◌++◌, ℕ, map, length, take, drop, All, AllPairs, IsTrue, IfOk, IfErr, OnOk, OnErr};
 ghost use Rattle.std.specs.List.{slice_index_or, flat_map};
 ghost use Rattle.std.specs.declared.cmp.Ordering.TheVariants.{Less, Greater};
 ghost use Rattle.integral_index.specs.Integral.{Integral as IntegralValue};
 ghost use Rattle.integral_index.specs.Order.{compare};
-ghost use Rattle.sparse_row.specs.Terms.{total_at, IsTermList, AllBelow, scaled_term, summed_term, kept_term};
+ghost use Rattle.sparse_row.specs.Terms.{total_at, IsAbove, IsTermList, AllBelow, scaled_term, summed_term, kept_term};
 ghost use Rattle.sparse_row.specs.declared.Term.{Term as TermValue};
 
 use crate::Term;
@@ -14,6 +14,37 @@ use integral_index::{Integral, Order};
 use out_of_memory::OutOfMemory;
 use std::alloc::Global;
 use std::cmp::Ordering;
+
+/// Whether a row of this order may have these terms: their integrals descend strictly, and no
+/// coefficient is 0.
+pub fn is_term_list(order: Order, terms: &[Term]) -> bool
+    ensures { IsTrue result ↔ IsTermList order terms.now }
+{
+    has_no_zero(terms) && descends(order, terms)
+}
+
+fn has_no_zero(terms: &[Term]) -> bool
+    ensures { IsTrue result ↔ All (λ term. term.coefficient ≢ 0) terms.now }
+{
+    terms.iter().all(|term| term.coefficient != 0)
+}
+
+fn descends(order: Order, terms: &[Term]) -> bool
+    ensures { IsTrue result ↔ AllPairs (IsAbove order) terms.now }
+{
+    for i in 1..terms.len() {
+        if !is_above(order, &terms[i - 1], &terms[i]) {
+            return false;
+        }
+    }
+    true
+}
+
+fn is_above(order: Order, term: &Term, other: &Term) -> bool
+    ensures { IsTrue result ↔ IsAbove order term.now other.now }
+{
+    order.compare(&term.integral, &other.integral).is_gt()
+}
 
 // The place of the term of x, or the place where one would have to stand.
 pub(crate) fn place_of(terms: &[Term], order: Order, x: &Integral) -> Result<usize, usize>

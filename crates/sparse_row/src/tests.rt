@@ -173,7 +173,12 @@ fn terms_give_the_row(rt: HostRuntime) -> Result<(), Fail> {
     row.add_term(&triangle(alloc, [0, 1, 1])?, 1, &p)?;
     let copy = row.copy()?;
     let order = row.order();
-    let again = Row::from_terms(order, row.into_terms());
+    let mut terms = row.into_terms();
+    terms.reverse();
+    assert!(rt; !is_term_list(order, &terms));
+    terms.reverse();
+    assert!(rt; is_term_list(order, &terms));
+    let again = Row::from_terms(order, terms);
     assert!(rt; again.equals(&copy));
     assert!(rt; has_terms(&again, &[([0, 1, 2], 7), ([0, 1, 1], 1)]));
     Ok(())

@@ -1,8 +1,7 @@
-use Rattle.std.proofs.Common.{◌≡◌, ◌+◌, ◌*◌, ◌^◌, ◌≤◌, pos, ◌<ℤ◌, ◌≤ℤ◌, get_or, sym, ap, ◌∙◌, add-one, arith}
+use Rattle.std.proofs.Common.{◌+◌, ◌*◌, ◌^◌, ◌≤◌, pos, ◌<ℤ◌, ◌≤ℤ◌, get_or, sym, ap, ◌∙◌, add-one, arith}
 use Rattle.std.proofs.Math.Nat.{pow-suc}
 use Rattle.std.proofs.lemmas.Int.{ints}
 use Rattle.std.proofs.Math.Pow.{pow_mono}
-use Rattle.integral_index.specs.Integral.{sector_of, is_positive}
 use Rattle.integral_index.proofs.IndexLists.{sector_of_more_positive, sector_of_more_other}
 use Rattle.integral_index.proofs.index_lists.sector.Goals as goal
 use Rattle.integral_index.proofs.index_lists.sector.Goals.{then-index-gt0, else-index-gt0}

@@ -1,7 +1,7 @@
 use Rattle.std.proofs.Common.{◌≡◌, ◌++◌, ◌+◌, ◌-◌, ℤ, List, length, take, drop, replicate, pos, sym, ap, ◌∙◌, refl, arith}
 use Rattle.std.proofs.lemmas.List.{take_at, drop_at, length-append, length-replicate, drop-replicate}
 use Rattle.integral_index.specs.Integral.{sector_of, r_of, s_of, t_of}
-use Rattle.integral_index.proofs.IndexLists.{r_of-le, s_of-le, t_of-le}
+use Rattle.integral_index.proofs.IndexLists.{r_of-le, s_of-le}
 use Rattle.integral_index.proofs.integrals.Integral.new.Goals as goal
 
 pub overflow_cast-result : goal.overflow_cast-result
