@@ -9,3 +9,6 @@ mod table;
 
 pub use plain::{ForwardFault, reduce_plain};
 pub use table::Table;
+
+#[cfg(test)]
+mod tests;
