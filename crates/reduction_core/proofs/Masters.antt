@@ -23,7 +23,7 @@ use Rattle.reduction_core.proofs.Differences.{normal_form_is_row}
 
 module _ {K A X : Type 0} (f : A → List (K × X)) where
   -- a key of the joined lists is a key of one of them
-  keys_from_joined : (xs : List A) (y : K) → Contains (map (λ e. e.0) (flat_map f xs)) y → (x : A) × Contains xs x × Contains (map (λ e. e.0) (f x)) y
+  pub keys_from_joined : (xs : List A) (y : K) → Contains (map (λ e. e.0) (flat_map f xs)) y → (x : A) × Contains xs x × Contains (map (λ e. e.0) (f x)) y
   keys_from_joined [] y key = absurd (omega (arith, key.1))
   keys_from_joined (x ∷ xs) y key =
       elim (Contains-append_cases (map (λ e. e.0) (f x)) (map (λ e. e.0) (flat_map f xs)) y (subst (λ ks. Contains ks y) (map-append (λ e. e.0) (f x) (flat_map f xs)) key)) [
@@ -31,7 +31,7 @@ module _ {K A X : Type 0} (f : A → List (K × X)) where
         | inr later ↦ let found = keys_from_joined xs y later in (found.0, Contains-there x xs found.0 found.1, found.2)
       ]
 
-  keys_to_joined : (xs : List A) (y : K) (x : A) → Contains xs x → Contains (map (λ e. e.0) (f x)) y → Contains (map (λ e. e.0) (flat_map f xs)) y
+  pub keys_to_joined : (xs : List A) (y : K) (x : A) → Contains xs x → Contains (map (λ e. e.0) (f x)) y → Contains (map (λ e. e.0) (flat_map f xs)) y
   keys_to_joined [] y x member key = absurd (omega (arith, member.1))
   keys_to_joined (z ∷ xs) y x member key =
       subst (λ ks. Contains ks y) (sym (map-append (λ e. e.0) (f z) (flat_map f xs)))
@@ -56,10 +56,10 @@ module _ (order : Order) (es : List (Integral × ℕ)) (y : Integral) where
   distinct : (a b : Integral) → eq_by_cmp (compare order) a b ≡ true → a ≡ b
   distinct a b e = compare-IsAntisymmetric order a b (tied (compare order a b) e)
 
-  keys_of_made : Contains (map_of.keys made) y → Contains (map (λ e. e.0) es) y
+  pub keys_of_made : Contains (map_of.keys made) y → Contains (map (λ e. e.0) es) y
   keys_of_made key = Contains-from_any distinct y (map (λ e. e.0) es) (sym same_tests ∙ list_any-from_Contains (eq_by_cmp_equiv (compare-total order)) y (map_of.keys made) key)
 
-  made_of_keys : Contains (map (λ e. e.0) es) y → Contains (map_of.keys made) y
+  pub made_of_keys : Contains (map (λ e. e.0) es) y → Contains (map_of.keys made) y
   made_of_keys key = Contains-from_any distinct y (map_of.keys made) (same_tests ∙ list_any-from_Contains (eq_by_cmp_equiv (compare-total order)) y (map (λ e. e.0) es) key)
 
 pub masters_are_listed : (p : ℕ) (order : Order) (zeros : ℕ → List ℕ) (table : List Row) (selection : List Integral) (y : Integral) → 1 < p → All (IsRow p order) table → Contains (masters p order zeros table selection) y ↔ IsMaster p order zeros table selection y

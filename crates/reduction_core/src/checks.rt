@@ -28,7 +28,8 @@ pub fn is_sum(
     requires rows { All (IsRow modulus.now order) rows.now }
     requires multipliers { IsMultiplierList modulus.now rows.now multipliers.now }
     requires row { IsRow modulus.now order row.now }
-    ensures { IfOk result (λ answer. IsTrue answer ↔ IsSum modulus.now rows.now multipliers.now row.now) }
+    ensures { IfOk result
+        (λ answer. IsTrue answer ↔ IsSum modulus.now rows.now multipliers.now row.now) }
 {
     let mut sum = Row::new(alloc, order);
     for k in 0..rows.len() {
@@ -51,7 +52,8 @@ pub fn are_sums(
     requires len { length multipliers.now ≡ length sums.now }
     requires sums { All (IsRow modulus.now order) sums.now }
     ensures { IfOk result
-        (λ answer. IsTrue answer ↔ AreSums modulus.now rows.now (map (λ list. list.items) multipliers.now) sums.now) }
+        (λ answer. IsTrue answer
+        ↔ AreSums modulus.now rows.now (map (λ list. list.items) multipliers.now) sums.now) }
 {
     for k in 0..sums.len() {
         if !is_sum(alloc, rows, &multipliers[k], &sums[k], order, modulus)? {
@@ -94,8 +96,11 @@ pub fn is_reduced(
     requires down_len { length down.now ≡ length table.now }
     requires up { All (λ list. IsMultiplierList modulus.now table.now list.items) up.now }
     requires up_len { length up.now ≡ length equations.now }
-    ensures exact { IfOk result (λ answer. IsTrue answer ↔ IsShownReduced modulus.now order equations.now table.now (map (λ list. list.items) down.now) (map (λ list. list.items) up.now)) }
-    ensures reduced { IfOk result (λ answer. IsTrue answer → IsReduced modulus.now order equations.now table.now) }
+    ensures exact { IfOk result (λ answer. IsTrue answer
+        ↔ IsShownReduced modulus.now order equations.now table.now
+        (map (λ list. list.items) down.now) (map (λ list. list.items) up.now)) }
+    ensures reduced { IfOk result
+        (λ answer. IsTrue answer → IsReduced modulus.now order equations.now table.now) }
 {
     if !is_echelon(table, order) {
         return Ok(false);
