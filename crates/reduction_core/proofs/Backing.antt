@@ -18,7 +18,8 @@ use Rattle.sparse_row.specs.ReducedList.{Ascend, IsEchelon, IsReduced}
 use Rattle.sparse_row.proofs.RowSpans.{no_row, functions, IsSpanned-from_row, InSpan-from_function, AllSpanned-from_rows, InSpan-member, SameSpan-trans}
 use Rattle.reduction_core.specs.Laws.{DifferBySpan}
 use Rattle.reduction_core.specs.Steps.{HasPivot, IsStairs, IsPivotAt, ShowsNoneWithin, IsAboveAll, SameAbove, IsForward, IsBack}
-use Rattle.reduction_core.proofs.StepLemmas.{greatest_same, same_at, IsPivotAt-from, stairs_less}
+use Rattle.sparse_row.proofs.RowValues.{greatest_same}
+use Rattle.reduction_core.proofs.StepLemmas.{same_at, IsPivotAt-from, stairs_less}
 use Rattle.reduction_core.proofs.Clearing.{none_above}
 use Rattle.reduction_core.proofs.Taking.{members_spanned, spanned_by_difference, differ_turned, SameSpan-push}
 

@@ -11,3 +11,4 @@ pub mod Clearing
 pub mod Taking
 pub mod Backing
 pub mod TableRows
+pub mod CheckLemmas

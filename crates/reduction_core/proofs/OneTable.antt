@@ -1,35 +1,21 @@
 -- There is only one reduced list: the law over functions, carried to rows.
-use Rattle.std.proofs.Common.{◌≡◌, ◌≢◌, ℕ, ◌<◌, List, length, get_or, Contains, Some, None, unwrap_or, refl, sym, ap, subst, ◌∙◌, arith}
-use Rattle.std.specs.FinMap as map_of
+use Rattle.std.proofs.Common.{◌≡◌, ℕ, ◌<◌, List, length, get_or, Contains, sym, ap, subst, ◌∙◌, arith}
 use Rattle.std.proofs.lemmas.Cmp.{tied_itself}
 use Rattle.std.proofs.lemmas.List.{length-map}
 use Rattle.std.proofs.lemmas.List.Elements.{Contains-get_or}
-use Rattle.std.specs.declared.option.Option.{Option}
 use Rattle.std.specs.declared.cmp.Ordering.TheVariants.{Less}
 use Rattle.integral_index.specs.declared.Order.{Order}
 use Rattle.integral_index.specs.Integral.{Integral}
 use Rattle.integral_index.specs.Order.{compare}
-use Rattle.integral_index.proofs.Orders.{by_fields-total, by_fields-IsAntisymmetric, compare-total, compare-IsAntisymmetric}
+use Rattle.integral_index.proofs.Orders.{compare-total, compare-IsAntisymmetric}
 use Rattle.sparse_row.specs.Row.{Row, coefficient, IsRow, IsPivot}
 use Rattle.sparse_row.specs.Span.{SameSpan}
 use Rattle.sparse_row.specs.ReducedList.{Ascend, IsEchelon, IsReduced}
+use Rattle.sparse_row.proofs.RowValues.{same_row}
 use Rattle.sparse_row.proofs.Spans.{at}
 use Rattle.sparse_row.proofs.RowSpans.{functions, no_row, at-functions, AllSpanned-from_rows, All_in_span-trans}
 use Rattle.reduction_core.proofs.Law.{IsTop, IsStair, matched}
 use Rattle.reduction_core.proofs.Members.{same_from_members}
-
--- rows of one order that keep no 0 are equal where their coefficients are
-same_entry : (a b : Option ℕ) → a ≢ Some 0 → b ≢ Some 0 → unwrap_or a 0 ≡ unwrap_or b 0 → a ≡ b
-same_entry None None a b e = refl
-same_entry None (Some n) a b e = absurd (b (ap Some (sym e)))
-same_entry (Some n) None a b e = absurd (a (ap Some e))
-same_entry (Some m) (Some n) a b e = ap Some e
-
-pub same_row : (p : ℕ) (order : Order) (row other : Row) → IsRow p order row → IsRow p order other → ((x : Integral) → coefficient row x ≡ coefficient other x) → row ≡ other
-same_row p order row other r s same =
-    let orders : row.order ≡ other.order = r.ordered ∙ sym s.ordered in
-    let terms : row.terms ≡ other.terms = map_of.same_map by_fields-total by_fields-IsAntisymmetric row.terms other.terms (λ x. same_entry _ _ (r.no_zero x) (s.no_zero x) (same x)) in
-    λ i. record { order = orders i; terms = terms i }
 
 module _ (p : ℕ) (order : Order) where
   pub IsTop-from_pivot : (row : Row) (x : Integral) → IsPivot order row x → IsTop (compare order) (coefficient row) x

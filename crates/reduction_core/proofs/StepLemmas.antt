@@ -12,12 +12,8 @@ use Rattle.integral_index.specs.Order.{compare}
 use Rattle.integral_index.proofs.Orders.{compare-total, compare-IsAntisymmetric}
 use Rattle.sparse_row.specs.Row.{Row, coefficient, IsRow, IsGreatest, IsPivot}
 use Rattle.sparse_row.specs.ReducedList.{Ascend}
+use Rattle.sparse_row.proofs.RowValues.{greatest_same}
 use Rattle.reduction_core.specs.Steps.{HasPivot, IsStairs, IsPivotAt, IsPlaceFor, ShowsNoneWithin, IsCleared}
-use Rattle.reduction_core.proofs.Law.{one_key}
-
--- a row has one greatest integral
-pub greatest_same : (order : Order) (row : Row) (x y : Integral) → IsGreatest order row x → IsGreatest order row y → x ≡ y
-greatest_same order row x y s t = one_key (compare order) (compare-total order) (compare-IsAntisymmetric order) 0 x y (t.greatest x s.shown) (s.greatest y t.shown)
 
 -- what the comparison with the greatest integral says of the pivot
 pub pivot_compared : (order own : Order) (row : Row) (greatest x y : Integral) → own ≡ order → IsGreatest own row greatest → IsPivot order row y → compare order greatest x ≡ compare order y x

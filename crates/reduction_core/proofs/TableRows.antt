@@ -12,7 +12,7 @@ use Rattle.sparse_row.specs.Row.{Row, coefficient, IsRow, IsEmpty, IsPivot}
 use Rattle.sparse_row.specs.ReducedList.{IsEchelon}
 use Rattle.reduction_core.specs.NormalForm.{empty_row, unit_row, solved, by_rule, rule_for, normal_form}
 use Rattle.reduction_core.specs.Steps.{IsStairs, IsPivotAt, IsPlaceFor}
-use Rattle.reduction_core.proofs.OneTable.{same_row}
+use Rattle.sparse_row.proofs.RowValues.{same_row}
 use Rattle.reduction_core.proofs.Pivots.{rule_is_pivot, no_rule_no_pivot}
 use Rattle.reduction_core.proofs.NormalForms.{same_key, key_cases, coefficient-empty_row, coefficient-unit_row, coefficient-solved}
 use Rattle.reduction_core.proofs.Differences.{IsRow-empty, IsRow-unit, IsRow-solved, cancel}
@@ -105,7 +105,7 @@ rule_missing p order table x place free =
 pub form_of_zero : (p : ℕ) (order : Order) (zeros : List ℕ) (table : List Row) (x : Integral) → is_zero_sector zeros (sector_of x.indices) ≡ true → normal_form p order zeros table x ≡ empty_row order
 form_of_zero p order zeros table x zero_sector = ap (λ b. cond b (empty_row order) (by_rule p order x (rule_for order table x))) zero_sector
 
-form_of_rule : (p : ℕ) (order : Order) (zeros : List ℕ) (table : List Row) (x : Integral) (o : Option Row) → is_zero_sector zeros (sector_of x.indices) ≡ false → rule_for order table x ≡ o → normal_form p order zeros table x ≡ by_rule p order x o
+pub form_of_rule : (p : ℕ) (order : Order) (zeros : List ℕ) (table : List Row) (x : Integral) (o : Option Row) → is_zero_sector zeros (sector_of x.indices) ≡ false → rule_for order table x ≡ o → normal_form p order zeros table x ≡ by_rule p order x o
 form_of_rule p order zeros table x o nonzero found =
     ap (λ b. cond b (empty_row order) (by_rule p order x (rule_for order table x))) nonzero ∙ ap (by_rule p order x) found
 

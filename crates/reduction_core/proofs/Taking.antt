@@ -22,7 +22,8 @@ use Rattle.sparse_row.proofs.RowSpans.{IsBelow, functions, IsSpanned-from_row, I
 use Rattle.reduction_core.specs.Laws.{DifferBySpan}
 use Rattle.reduction_core.specs.Steps.{HasPivot, IsStairs, IsPivotAt, IsPlaceFor, ShowsNoneWithin, IsForward}
 use Rattle.reduction_core.proofs.Members.{Contains-here, Contains-there}
-use Rattle.reduction_core.proofs.StepLemmas.{greatest_same, IsPivotAt-from}
+use Rattle.sparse_row.proofs.RowValues.{greatest_same}
+use Rattle.reduction_core.proofs.StepLemmas.{IsPivotAt-from}
 use Rattle.reduction_core.proofs.Clearing.{differ_from}
 
 -- ---- spans

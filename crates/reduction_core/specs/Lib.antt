@@ -1,3 +1,4 @@
+pub mod Checks
 pub mod Fault
 pub mod KeptTable
 pub mod Laws

@@ -1,6 +1,7 @@
 //! The reduced list of a list of rows, and the normal form of an integral under it.
 #![tactic(auto)]
 
+pub mod checks;
 pub mod laws;
 mod plain;
 mod steps;
@@ -8,3 +9,6 @@ mod table;
 
 pub use plain::{ForwardFault, reduce_plain};
 pub use table::Table;
+
+#[cfg(test)]
+mod tests;

@@ -34,24 +34,22 @@ pub enum ForwardFault {
 /// modulus that meets no coefficient without an inverse is no fault. Source: hep-ph/0102033.
 pub fn reduce_plain(
     alloc: Global,
-    rows: Vec<Row>,
+    mut rows: Vec<Row>,
     modulus: Modulus,
     order: Order,
 ) -> Result<Table, ForwardFault>
     requires { All (IsRow modulus order) rows.items }
     ensures reduced { IfOk result (λ table. IsReduced modulus order rows.items table.rows) }
-    ensures only { IfOk result (λ table. (other : List RowValue) → IsReduced modulus order rows.items other → other ≡ table.rows) }
+    ensures only { IfOk result (λ table. (other : List RowValue) →
+        IsReduced modulus order rows.items other → other ≡ table.rows) }
     ensures modulus { IfOk result (λ table. table.modulus ≡ modulus) }
     ensures order { IfOk result (λ table. table.order ≡ order) }
     ensures cause { IfErr result (λ fault. HasCause modulus fault) }
 {
-    let mut rows = rows;
     rows.sort_unstable_by(|row, other| compare_rows(row, other, order));
     let stairs = forward(alloc, rows, order, &modulus)?;
-    match back(alloc, stairs, order, &modulus) {
-        Ok(rows) => Ok(Table::of_rows(rows, modulus, order)),
-        Err(OutOfMemory) => Err(ForwardFault::OutOfMemory),
-    }
+    let reduced = back(alloc, stairs, order, &modulus)?;
+    Ok(Table::of_rows(reduced, modulus, order))
 }
 
 // The order in which rows are taken: by the greatest integral, and then by length.
@@ -133,8 +131,7 @@ fn back(
     ensures { IfOk result (λ table. IsBack modulus.now order rows.items table.items) }
 {
     let mut table = Vec::with_capacity(alloc, rows.len())?;
-    for row in rows {
-        let mut row = row;
+    for mut row in rows {
         clear_pivots(&mut row, &table, order, modulus)?;
         table.push(row)?;
     }

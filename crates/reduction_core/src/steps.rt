@@ -51,7 +51,8 @@ fn last_shown(row: &Row, rows: &[Row], order: Order) -> Option<usize>
     requires stairs { (p : ℕ) × IsStairs p order rows.now }
     ensures { MatchOption result
         (ShowsNoneWithin order rows.now 0 (length rows.now) row.now)
-        (λ place. (place < length rows.now) × ShowsNoneWithin order rows.now (place + 1) (length rows.now) row.now) }
+        (λ place. (place < length rows.now)
+        × ShowsNoneWithin order rows.now (place + 1) (length rows.now) row.now) }
 {
     let terms = row.terms();
     for term in terms {

@@ -11,16 +11,16 @@ pub forward-requires : goal.forward-requires
 forward-requires c =
     All-permutation (IsRow c.args.modulus c.args.order) c.args.rows.items c.sort_unstable_by.new.self.items c.sort_unstable_by.ensures.permutation c.requires
 
-pub returns-in-Ok-clause-reduced : goal.returns-in-Ok-clause-reduced
-returns-in-Ok-clause-reduced c =
+pub returns-clause-reduced : goal.returns-clause-reduced
+returns-clause-reduced c =
     rw c.of_rows.ensures
-    (IsReduced-from_passes c.args.modulus c.args.order c.args.rows.items c.sort_unstable_by.new.self.items c.in_ok-stairs.stairs.items c.in-Ok.rows.items
-    (SameSpan-permutation c.args.modulus c.args.order c.args.rows.items c.sort_unstable_by.new.self.items c.requires c.sort_unstable_by.ensures.permutation) c.in_ok-stairs.ensures.forward c.in-Ok.ensures)
+    (IsReduced-from_passes c.args.modulus c.args.order c.args.rows.items c.sort_unstable_by.new.self.items c.in_ok-stairs.stairs.items c.in_ok-reduced.reduced.items
+    (SameSpan-permutation c.args.modulus c.args.order c.args.rows.items c.sort_unstable_by.new.self.items c.requires c.sort_unstable_by.ensures.permutation) c.in_ok-stairs.ensures.forward c.in_ok-reduced.ensures)
 
-pub returns-in-Ok-clause-only : goal.returns-in-Ok-clause-only
-returns-in-Ok-clause-only c =
+pub returns-clause-only : goal.returns-clause-only
+returns-clause-only c =
     λ other reduced.
-    let made : IsReduced c.args.modulus c.args.order c.args.rows.items c.in-Ok.rows.items =
-    IsReduced-from_passes c.args.modulus c.args.order c.args.rows.items c.sort_unstable_by.new.self.items c.in_ok-stairs.stairs.items c.in-Ok.rows.items
-    (SameSpan-permutation c.args.modulus c.args.order c.args.rows.items c.sort_unstable_by.new.self.items c.requires c.sort_unstable_by.ensures.permutation) c.in_ok-stairs.ensures.forward c.in-Ok.ensures in
-    one_list_of_equations c.args.modulus c.args.order c.args.rows.items other c.in-Ok.rows.items reduced made ∙ sym (ap (λ t. t.rows) c.of_rows.ensures)
+    let made : IsReduced c.args.modulus c.args.order c.args.rows.items c.in_ok-reduced.reduced.items =
+    IsReduced-from_passes c.args.modulus c.args.order c.args.rows.items c.sort_unstable_by.new.self.items c.in_ok-stairs.stairs.items c.in_ok-reduced.reduced.items
+    (SameSpan-permutation c.args.modulus c.args.order c.args.rows.items c.sort_unstable_by.new.self.items c.requires c.sort_unstable_by.ensures.permutation) c.in_ok-stairs.ensures.forward c.in_ok-reduced.ensures in
+    one_list_of_equations c.args.modulus c.args.order c.args.rows.items other c.in_ok-reduced.reduced.items reduced made ∙ sym (ap (λ t. t.rows) c.of_rows.ensures)

@@ -1,0 +1,314 @@
+//! The worked jobs: their equations are written out from the derivative rule, the triangle's by a
+//! script apart from the program, and the values that are wanted come from hand computation.
+
+ghost use Rattle.std.specs.Prelude.{◌≡◌, ◌<◌, length, All, IfOk};
+ghost use Rattle.integral_index.specs.declared.Order.TheVariants.{Standard};
+ghost use Rattle.sparse_row.specs.Row.{IsRow};
+ghost use Rattle.reduction_core.specs.Checks.{IsMultiplierList};
+
+use super::*;
+use crate::checks::{is_reduced, normal_form_by_scan};
+use field_word::Modulus;
+use integral_index::{Integral, Order, ZeroSectors, is_index_list};
+use out_of_memory::OutOfMemory;
+use sparse_row::Row;
+use std::alloc::{AllocFailed, Global};
+use std::test::Fail;
+
+// What a helper of the tests may answer.
+#[derive(Debug, Drop)]
+enum Wrong {
+    Indices,
+    Multipliers,
+    Scan,
+    OutOfMemory,
+}
+
+impl From<OutOfMemory> for Wrong {
+    fn from(_refused: OutOfMemory) -> Wrong {
+        Wrong::OutOfMemory
+    }
+}
+
+impl<T: Drop> From<AllocFailed<T>> for Wrong {
+    fn from(_refused: AllocFailed<T>) -> Wrong {
+        Wrong::OutOfMemory
+    }
+}
+
+// The integral with the first `width` of the indices.
+fn integral(alloc: Global, width: usize, indices: &[i8]) -> Result<Integral, Wrong> {
+    if width > indices.len() || !is_index_list(&indices[..width]) {
+        return Err(Wrong::Indices);
+    }
+    Ok(Integral::new(alloc, 0, &indices[..width])?)
+}
+
+// The row of these terms.
+fn row_of(
+    alloc: Global,
+    width: usize,
+    terms: &[([i8; 3], u64)],
+    modulus: &Modulus,
+) -> Result<Row, Wrong>
+    ensures { IfOk result (λ row. IsRow modulus.now Standard row) }
+{
+    let _p = modulus.value();
+    let mut row = Row::new(alloc, Order::Standard);
+    for (indices, coefficient) in terms {
+        let x = integral(alloc, width, indices)?;
+        row.add_term(&x, modulus.reduce(u128::from(*coefficient)), modulus)?;
+    }
+    Ok(row)
+}
+
+fn rows_of(
+    alloc: Global,
+    width: usize,
+    equations: &[&[([i8; 3], u64)]],
+    modulus: &Modulus,
+) -> Result<Vec<Row>, Wrong>
+    ensures { IfOk result (λ rows. All (IsRow modulus.now Standard) rows.items) }
+{
+    let mut rows = Vec::new(alloc);
+    for equation in equations {
+        rows.push(row_of(alloc, width, equation, modulus)?)?;
+    }
+    Ok(rows)
+}
+
+// The multipliers, one for each row.
+fn multipliers(
+    alloc: Global,
+    numbers: &[u64],
+    rows: &[Row],
+    modulus: &Modulus,
+) -> Result<Vec<u64>, Wrong>
+    ensures { IfOk result (λ list. IsMultiplierList modulus.now rows.now list.items) }
+{
+    if numbers.len() != rows.len() {
+        return Err(Wrong::Multipliers);
+    }
+    let mut list = Vec::new(alloc);
+    for number in numbers {
+        list.push(modulus.reduce(u128::from(*number)))?;
+    }
+    Ok(list)
+}
+
+fn multiplier_lists(
+    alloc: Global,
+    lists: &[&[u64]],
+    rows: &[Row],
+    modulus: &Modulus,
+) -> Result<Vec<Vec<u64>>, Wrong>
+    ensures lists { IfOk result (λ made. All (λ list. IsMultiplierList modulus.now rows.now list.items) made.items) }
+    ensures len { IfOk result (λ made. length made.items ≡ length lists.now) }
+{
+    let mut made = Vec::new(alloc);
+    for numbers in lists {
+        made.push(multipliers(alloc, numbers, rows, modulus)?)?;
+    }
+    Ok(made)
+}
+
+// The coefficient of the one integral in the normal form of the other, and how many terms that has,
+// which is the same by a scan.
+fn value_of(
+    alloc: Global,
+    table: &Table,
+    width: usize,
+    x: &[i8],
+    master: &[i8],
+) -> Result<(u64, usize), Wrong> {
+    let x = integral(alloc, width, x)?;
+    let master = integral(alloc, width, master)?;
+    let zeros = ZeroSectors::new(alloc, &[])?;
+    let modulus = table.modulus();
+    let p = modulus.value();
+    prove!(p > 1);
+    let form = table.normal_form(&x, &zeros)?;
+    let scanned = normal_form_by_scan(alloc, table.rows(), &x, &zeros, table.order(), &modulus)?;
+    if !form.equals(&scanned) {
+        return Err(Wrong::Scan);
+    }
+    Ok((form.coefficient(&master), form.terms().len()))
+}
+
+// (d - 2a) I(a) = 2 a m2 I(a + 1) at d = 7, m2 = 3, for a = 1 and 2.
+const TADPOLE: [&[([i8; 3], u64)]; 2] = [
+    &[([1, 0, 0], 5), ([2, 0, 0], 95)],
+    &[([2, 0, 0], 3), ([3, 0, 0], 89)],
+];
+
+#[test]
+fn the_tadpole_reduces_to_one_master(rt: HostRuntime) -> Result<(), Fail> {
+    let alloc = rt.alloc();
+    let p = Modulus::new(101)?;
+    let table = reduce_plain(alloc, rows_of(alloc, 1, &TADPOLE, &p)?, p, Order::Standard)?;
+    assert_eq!(rt; table.rows().len(), 2);
+    assert_eq!(rt; value_of(alloc, &table, 1, &[1], &[1])?, (1, 1));
+    assert_eq!(rt; value_of(alloc, &table, 1, &[2], &[1])?, (85, 1));
+    assert_eq!(rt; value_of(alloc, &table, 1, &[3], &[1])?, (97, 1));
+    Ok(())
+}
+
+// The inverses of 95 and 89 are 84 and 42, and the multipliers follow.
+#[test]
+fn the_multipliers_of_the_tadpole_show_its_table(rt: HostRuntime) -> Result<(), Fail> {
+    let alloc = rt.alloc();
+    let p = Modulus::new(101)?;
+    let equations = rows_of(alloc, 1, &TADPOLE, &p)?;
+    let table = rows_of(
+        alloc,
+        1,
+        &[
+            &[([2, 0, 0], 1), ([1, 0, 0], 16)],
+            &[([3, 0, 0], 1), ([1, 0, 0], 4)],
+        ],
+        &p,
+    )?;
+    assert_eq!(rt; table.len(), 2);
+    assert_eq!(rt; equations.len(), 2);
+    let down = multiplier_lists(alloc, &[&[84, 0], &[21, 42]], &equations, &p)?;
+    let wrong = multiplier_lists(alloc, &[&[84, 0], &[21, 41]], &equations, &p)?;
+    let up = multiplier_lists(alloc, &[&[95, 0], &[3, 89]], &table, &p)?;
+    assert!(rt; is_reduced(alloc, &equations, &table, &down, &up, Order::Standard, &p)?);
+    assert!(rt; !is_reduced(alloc, &equations, &table, &wrong, &up, Order::Standard, &p)?);
+    Ok(())
+}
+
+// Modulo 15 the coefficient 9 of I(2) has no inverse.
+#[test]
+fn a_composite_modulus_is_named_by_a_divisor(rt: HostRuntime) -> Result<(), Fail> {
+    let alloc = rt.alloc();
+    let p = Modulus::new(15)?;
+    let rows = rows_of(
+        alloc,
+        1,
+        &[
+            &[([1, 0, 0], 5), ([2, 0, 0], 9)],
+            &[([2, 0, 0], 3), ([3, 0, 0], 3)],
+        ],
+        &p,
+    )?;
+    match reduce_plain(alloc, rows, p, Order::Standard) {
+        Ok(_) => assert!(rt; false, "a table"),
+        Err(ForwardFault::Composite(fault)) => assert_eq!(rt; fault.divisor, 3),
+        Err(ForwardFault::OutOfMemory) => assert!(rt; false, "out of memory"),
+    }
+    Ok(())
+}
+
+// Modulo 25 the coefficients 19 and 13 have inverses.
+#[test]
+fn a_composite_modulus_may_serve(rt: HostRuntime) -> Result<(), Fail> {
+    let alloc = rt.alloc();
+    let p = Modulus::new(25)?;
+    let rows = rows_of(
+        alloc,
+        1,
+        &[
+            &[([1, 0, 0], 5), ([2, 0, 0], 19)],
+            &[([2, 0, 0], 3), ([3, 0, 0], 13)],
+        ],
+        &p,
+    )?;
+    let table = reduce_plain(alloc, rows, p, Order::Standard)?;
+    assert_eq!(rt; value_of(alloc, &table, 1, &[2], &[1])?, (5, 1));
+    assert_eq!(rt; value_of(alloc, &table, 1, &[3], &[1])?, (20, 1));
+    Ok(())
+}
+
+// At d = 7, s = 5: 4 I(1,1) + 5 I(1,2) = 0 and 5 I(2,1) - 5 I(1,2) = 0.
+#[test]
+fn the_bubble_reduces_to_one_master(rt: HostRuntime) -> Result<(), Fail> {
+    let alloc = rt.alloc();
+    let p = Modulus::new(101)?;
+    let rows = rows_of(
+        alloc,
+        2,
+        &[
+            &[([1, 1, 0], 4), ([1, 2, 0], 5)],
+            &[([2, 1, 0], 5), ([1, 2, 0], 96)],
+        ],
+        &p,
+    )?;
+    let table = reduce_plain(alloc, rows, p, Order::Standard)?;
+    assert_eq!(rt; value_of(alloc, &table, 2, &[1, 2], &[1, 1])?, (80, 1));
+    assert_eq!(rt; value_of(alloc, &table, 2, &[2, 1], &[1, 1])?, (80, 1));
+    Ok(())
+}
+
+// At d = 7, s = 5, with the zero sectors left out.
+const TRIANGLE: [&[([i8; 3], u64)]; 12] = [
+    &[([0, 1, 1], 5), ([-1, 1, 2], 100), ([-1, 2, 1], 100)],
+    &[
+        ([0, 1, 1], 100),
+        ([0, 1, 2], 5),
+        ([-1, 1, 2], 1),
+        ([-1, 2, 1], 1),
+    ],
+    &[
+        ([0, 1, 1], 1),
+        ([0, 2, 1], 96),
+        ([-1, 1, 2], 100),
+        ([-1, 2, 1], 100),
+    ],
+    &[([0, 1, 2], 4), ([-1, 1, 3], 99), ([-1, 2, 2], 100)],
+    &[
+        ([0, 1, 2], 100),
+        ([0, 1, 3], 10),
+        ([-1, 1, 3], 2),
+        ([-1, 2, 2], 1),
+    ],
+    &[
+        ([0, 1, 2], 2),
+        ([0, 2, 1], 1),
+        ([0, 2, 2], 96),
+        ([-1, 1, 3], 99),
+        ([-1, 2, 2], 100),
+    ],
+    &[([0, 2, 1], 4), ([-1, 2, 2], 100), ([-1, 3, 1], 99)],
+    &[
+        ([0, 1, 2], 100),
+        ([0, 2, 1], 99),
+        ([0, 2, 2], 5),
+        ([-1, 2, 2], 1),
+        ([-1, 3, 1], 2),
+    ],
+    &[
+        ([0, 2, 1], 1),
+        ([0, 3, 1], 91),
+        ([-1, 2, 2], 100),
+        ([-1, 3, 1], 99),
+    ],
+    &[([0, 1, 2], 100), ([0, 2, 1], 100), ([1, 1, 1], 3)],
+    &[([0, 1, 2], 1), ([0, 2, 1], 1), ([1, 1, 2], 5)],
+    &[([0, 1, 2], 100), ([0, 2, 1], 100), ([1, 2, 1], 96)],
+];
+
+#[test]
+fn the_triangle_reduces_to_the_bubble_in_it(rt: HostRuntime) -> Result<(), Fail> {
+    let alloc = rt.alloc();
+    let p = Modulus::new(101)?;
+    let table = reduce_plain(alloc, rows_of(alloc, 3, &TRIANGLE, &p)?, p, Order::Standard)?;
+    let bubble = [0, 1, 1];
+    assert_eq!(rt; value_of(alloc, &table, 3, &bubble, &bubble)?, (1, 1));
+    assert_eq!(rt; value_of(alloc, &table, 3, &[0, 1, 2], &bubble)?, (80, 1));
+    assert_eq!(rt; value_of(alloc, &table, 3, &[0, 2, 1], &bubble)?, (80, 1));
+    assert_eq!(rt; value_of(alloc, &table, 3, &[1, 1, 1], &bubble)?, (87, 1));
+    Ok(())
+}
+
+// An integral of a zero sector has the empty normal form.
+#[test]
+fn a_zero_sector_has_no_terms(rt: HostRuntime) -> Result<(), Fail> {
+    let alloc = rt.alloc();
+    let p = Modulus::new(101)?;
+    let table = reduce_plain(alloc, rows_of(alloc, 1, &TADPOLE, &p)?, p, Order::Standard)?;
+    let zeros = ZeroSectors::new(alloc, &[1])?;
+    let form = table.normal_form(&integral(alloc, 1, &[3])?, &zeros)?;
+    assert!(rt; form.is_empty());
+    Ok(())
+}
