@@ -1,0 +1,10 @@
+//! Reads the part of YAML in which the input files are written, as a tree, or names its first fault.
+#![tactic(auto)]
+
+mod fault;
+mod text;
+mod tree;
+
+pub use fault::{YamlError, YamlFault, YamlKind};
+pub use text::Text;
+pub use tree::{Pair, Tree, Value};
