@@ -1,1 +1,4 @@
 pub mod Kinds
+pub mod Outcomes
+pub mod Lines
+pub mod Kept
