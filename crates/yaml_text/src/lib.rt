@@ -4,6 +4,7 @@
 mod fault;
 mod line;
 mod text;
+mod token;
 mod tree;
 
 pub use fault::{YamlError, YamlFault, YamlKind};

@@ -136,6 +136,7 @@ fn quoted_after(quoted: bool, byte: u8) -> bool
 pub fn trim_end(text: &[u8]) -> &[u8]
     ensures value { result.now ≡ spec.trim_end text.now }
     ensures within { length result.now ≤ length text.now }
+    ensures ascii { IsAscii text.now → IsAscii result.now }
 {
     let mut end = text.len();
     while 0 < end && text[end - 1] == b' ' {
@@ -158,7 +159,9 @@ pub fn spaces(text: &[u8]) -> usize
 
 /// The text without the spaces that it begins with.
 pub fn skip(text: &[u8]) -> &[u8]
-    ensures { result.now ≡ spec.skip text.now }
+    ensures value { result.now ≡ spec.skip text.now }
+    ensures short { length result.now ≤ length text.now }
+    ensures ascii { IsAscii text.now → IsAscii result.now }
 {
     &text[spaces(text)..]
 }
@@ -198,8 +201,9 @@ fn has_quote(bare: &[u8]) -> bool
 }
 
 /// Whether the text begins with this byte, at this place.
-fn byte_at(text: &[u8], at: usize, byte: u8) -> bool
-    ensures { result ≡ spec.begins byte (drop at text.now) }
+pub fn byte_at(text: &[u8], at: usize, byte: u8) -> bool
+    ensures value { result ≡ spec.begins byte (drop at text.now) }
+    ensures within { result ≡ true → at < length text.now }
 {
     at < text.len() && text[at] == byte
 }
