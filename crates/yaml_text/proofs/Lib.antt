@@ -1,3 +1,6 @@
 pub mod Cutting
 pub mod LineSteps
 pub mod Pieces
+pub mod FlowSteps
+pub mod KeySteps
+pub mod Turns

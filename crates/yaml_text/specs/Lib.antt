@@ -5,3 +5,7 @@ pub mod Kept
 pub mod Words
 pub mod KeptWords
 pub mod Tokens
+pub mod SameKeys
+pub mod Keys
+pub mod Flow
+pub mod Nests

@@ -2,6 +2,8 @@
 #![tactic(auto)]
 
 mod fault;
+mod flow;
+mod keys;
 mod line;
 mod text;
 mod token;

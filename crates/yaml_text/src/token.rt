@@ -4,6 +4,7 @@ ghost use Rattle.std.specs.Prelude.{◌≡◌, ◌<◌, ◌≤◌, ◌+◌, ◌-
 ghost use Rattle.std.specs.Str.{IsAscii};
 ghost use Rattle.yaml_text.specs.Words as spec;
 ghost use Rattle.yaml_text.specs.Tokens as tokens;
+ghost use Rattle.yaml_text.specs.Lines as lines;
 
 use crate::fault::YamlKind;
 use crate::line::{byte_at, skip, trim_end};
@@ -243,6 +244,20 @@ impl<'a> Pieces<'a> {
         ensures short { length self.now < 2 ^ 32 }
     {
         self.text
+    }
+
+    /// How many bytes are left.
+    pub fn left(&self) -> usize
+        ensures { result ≡ length self.now }
+    {
+        self.text.len()
+    }
+
+    /// Whether nothing is left.
+    pub fn is_empty(&self) -> bool
+        ensures { result ≡ lines.is_empty self.now }
+    {
+        self.text.is_empty()
     }
 
     /// The next piece, which stays.
