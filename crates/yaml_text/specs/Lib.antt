@@ -9,3 +9,5 @@ pub mod SameKeys
 pub mod Keys
 pub mod Flow
 pub mod Nests
+pub mod Blocks
+pub mod NestsBlock

@@ -1,6 +1,7 @@
 //! Reads the part of YAML in which the input files are written, as a tree, or names its first fault.
 #![tactic(auto)]
 
+mod block;
 mod fault;
 mod flow;
 mod keys;

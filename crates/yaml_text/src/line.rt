@@ -3,9 +3,12 @@
 ghost use Rattle.std.specs.Prelude.{◌≡◌, ◌<◌, ◌≤◌, ◌+◌, ◌-◌, ◌^◌, [], ◌∷◌, ◌++◌, length, take, drop, IfOk, OnOk, false, true};
 ghost use Rattle.std.specs.Str.{IsAscii};
 ghost use Rattle.yaml_text.specs.Lines as spec;
+ghost use Rattle.yaml_text.specs.Blocks as blocks;
+ghost use Rattle.yaml_text.specs.Tokens as tokens;
 ghost use Rattle.yaml_text.specs.Outcomes.{Gives};
 
 use crate::fault::{YamlError, YamlFault, YamlKind};
+use crate::token::{Pieces, Token};
 use sqlite_items::Items;
 use std::alloc::Global;
 use std::marker::Model;
@@ -58,6 +61,45 @@ impl<'a> Line<'a> {
         ensures short { self.now.indent + length self.now.text < 2 ^ 32 }
     {
         self.text
+    }
+
+    /// The same line once more.
+    pub fn again(&self) -> Line<'a>
+        ensures { result ≡ self.now }
+    {
+        Line {
+            number: self.number,
+            indent: self.indent,
+            text: self.text,
+        }
+    }
+
+    /// Whether a key with its colon comes first.
+    pub fn has_key(&self) -> bool
+        ensures { result ≡ blocks.is_key (tokens.token self.now.text) }
+    {
+        matches!(Pieces::new(self.text).peek(), Token::Key(_))
+    }
+
+    /// What stands behind the dash of an item, as a line at its own column.
+    #[tactic(auto, unfolding(crate::specs::Blocks::item_line))]
+    pub fn item_line(&self) -> Line<'a>
+        requires { blocks.is_dash self.now.text ≡ true }
+        ensures { result ≡ blocks.item_line self.now }
+    {
+        let text = skip(&self.text[1..]);
+        Line {
+            number: self.number,
+            indent: self.indent + (self.text.len() - text.len()) as u32,
+            text,
+        }
+    }
+
+    /// Whether the text is a dash or begins with a dash and a space.
+    pub fn is_dash(&self) -> bool
+        ensures { result ≡ blocks.is_dash self.now.text }
+    {
+        byte_at(self.text, 0, b'-') && (self.text.len() == 1 || byte_at(self.text, 1, b' '))
     }
 }
 
