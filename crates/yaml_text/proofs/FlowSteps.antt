@@ -140,7 +140,7 @@ pub pairs_none : (line : ℕ) (inner : Parser Tree) (text : Bytes) → token tex
 unfolding pairs
 pairs_none line inner text e = ap (λ t. pairs_by line inner t text) e
 
-key_same : (line : ℕ) (other : YamlKind) (xs ys : List Bytes) → SameKeys xs ys → (t : Token) → key line other xs t ≡ key line other ys t
+pub key_same : (line : ℕ) (other : YamlKind) (xs ys : List Bytes) → SameKeys xs ys → (t : Token) → key line other xs t ≡ key line other ys t
 unfolding new_key
 key_same line other xs ys same OpenList = refl
 key_same line other xs ys same CloseList = refl
@@ -156,7 +156,7 @@ pub bind_same : {A B : Type 0} (o : Outcome A) (f h : A → Outcome B) → ((a :
 bind_same (Ok a) f h same = same a
 bind_same (Err e) f h same = refl
 
-keys_more : (xs ys : List Bytes) (k : Bytes) → SameKeys xs ys → SameKeys (xs ++ k ∷ []) (ys ++ k ∷ [])
+pub keys_more : (xs ys : List Bytes) (k : Bytes) → SameKeys xs ys → SameKeys (xs ++ k ∷ []) (ys ++ k ∷ [])
 keys_more xs ys k same q =
     list_any-append (bytes_eq q) xs (k ∷ []) ∙ ap (λ t. t || list_any (bytes_eq q) (k ∷ [])) (same q) ∙ sym (list_any-append (bytes_eq q) ys (k ∷ []))
 

@@ -4,3 +4,4 @@ pub mod Pieces
 pub mod FlowSteps
 pub mod KeySteps
 pub mod Turns
+pub mod BlockSteps

@@ -65,6 +65,10 @@ abbrev pub is_key : Token → Bool
 is_key (Key words) = true
 is_key _ = false
 
+-- a list or a map begins with this line
+abbrev pub begins_block : Line → Bool
+begins_block line = is_dash line.text || is_key (token line.text)
+
 -- a block of one value on one line
 unfoldable pub single : ℕ → Line → List Line → Outcome Tree
 single depth line [] = flow line.number depth line.text
@@ -108,7 +112,7 @@ module _ (inner : List Line → Outcome Tree) where
 unfoldable pub block : ℕ → List Line → Outcome Tree
 block depth [] = Ok (empty_at 1)
 block zero (line ∷ lines) =
-    if is_dash line.text || is_key (token line.text) then refuse line.number kind.TooDeep else single 0 line lines
+    if begins_block line then refuse line.number kind.TooDeep else single 0 line lines
 block (suc depth) (line ∷ lines) =
     if is_dash line.text then items (block depth) line.indent 0 [] (line ∷ lines) >>= (λ found. Ok (list_at line.number found))
     else (if is_key (token line.text) then pairs (block depth) depth line.indent 0 [] [] (line ∷ lines) >>= (λ found. Ok (map_at line.number found))

@@ -117,8 +117,8 @@ struct Blocks<F> {
     block: F,
 }
 
-impl<F: Fn(Global, usize, Line<'_>, &[Line<'_>]) -> Result<Tree, YamlError>> Blocks<F> {
-    fn block(&self, first: Line<'_>, rest: &[Line<'_>]) -> Result<Tree, YamlError>
+impl<F: for<'t> Fn(Global, usize, Line<'t>, &[Line<'t>]) -> Result<Tree, YamlError>> Blocks<F> {
+    fn block<'t>(&self, first: Line<'t>, rest: &[Line<'t>]) -> Result<Tree, YamlError>
         requires { NestsBlock self.now.depth (F.pre self.now.block) (F.post self.now.block) }
         ensures { Gives (spec.block_of self.now.depth first.entry rest.now) result }
     {
@@ -141,7 +141,7 @@ impl<F: Fn(Global, usize, Line<'_>, &[Line<'_>]) -> Result<Tree, YamlError>> Blo
 
     /// An item: what stands behind the dash, and the deeper lines.
     #[tactic(auto, unfolding(crate::specs::Blocks::content, crate::specs::Blocks::item_line))]
-    fn item(&self, line: &Line<'_>, deeper: &[Line<'_>]) -> Result<Tree, YamlError>
+    fn item<'t>(&self, line: &Line<'t>, deeper: &[Line<'t>]) -> Result<Tree, YamlError>
         requires nests { NestsBlock self.now.depth (F.pre self.now.block) (F.post self.now.block) }
         requires dash { spec.is_dash line.now.text ≡ true }
         ensures { Gives (spec.inside (spec.block self.now.depth) line.now.number (spec.content line.now deeper.now)) result }
@@ -168,4 +168,132 @@ impl<F: Fn(Global, usize, Line<'_>, &[Line<'_>]) -> Result<Tree, YamlError>> Blo
             flow(self.alloc, self.depth, number, rest)
         }
     }
+
+    /// The items of a list of this indentation.
+    fn items<'s, 't>(
+        &self,
+        indent: u32,
+        first: &'s Line<'t>,
+        rest: &'s [Line<'t>],
+    ) -> Result<Items<Tree>, YamlError>
+        requires { NestsBlock self.now.depth (F.pre self.now.block) (F.post self.now.block) }
+        ensures { Gives (spec.items (spec.block self.now.depth) indent 0 [] (first.now ∷ rest.now)) result }
+    {
+        let mut found = Items::new(self.alloc);
+        let mut line = first;
+        let mut at = 0;
+        loop {
+            if !is_item(indent, line) {
+                return Err(refuse(line.number(), YamlKind::Indent));
+            }
+            let end = at + deep(indent, &rest[at..]);
+            let item = self.item(line, &rest[at..end])?;
+            found.push(item)?;
+            if end == rest.len() {
+                return Ok(found);
+            }
+            line = &rest[end];
+            at = end + 1;
+        }
+    }
+
+    /// The pairs of a map of this indentation.
+    fn pairs<'s, 't>(
+        &self,
+        indent: u32,
+        first: &'s Line<'t>,
+        rest: &'s [Line<'t>],
+    ) -> Result<Items<Pair>, YamlError>
+        requires { NestsBlock self.now.depth (F.pre self.now.block) (F.post self.now.block) }
+        ensures { Gives (spec.pairs (spec.block self.now.depth) self.now.depth indent 0 [] [] (first.now ∷ rest.now)) result }
+    {
+        let mut keys = Keys::new(self.alloc);
+        let mut found = Items::new(self.alloc);
+        let mut line = first;
+        let mut at = 0;
+        loop {
+            let number = line.number();
+            if line.indent() != indent {
+                return Err(refuse(number, YamlKind::Indent));
+            }
+            let mut pieces = Pieces::new(line.text());
+            let words = key(&mut keys, number, YamlKind::NoColon, pieces.take())?;
+            let text = pieces.rest();
+            let end = at + value_lines(indent, text, &rest[at..]);
+            let value = self.value(number, text, &rest[at..end])?;
+            let pair = pair(self.alloc, number, &words, value)?;
+            found.push(pair)?;
+            if end == rest.len() {
+                return Ok(found);
+            }
+            line = &rest[end];
+            at = end + 1;
+        }
+    }
+
+    /// A block with one more list or map around what is inside.
+    fn nested<'t>(&self, first: Line<'t>, rest: &[Line<'t>]) -> Result<Tree, YamlError>
+        requires room { self.now.depth < usize.MAX }
+        requires nests { NestsBlock self.now.depth (F.pre self.now.block) (F.post self.now.block) }
+        ensures { Gives (spec.block_of (self.now.depth + 1) first.entry rest.now) result }
+    {
+        let (line, indent) = (first.number(), first.indent());
+        if first.is_dash() {
+            let items = self.items(indent, &first, rest)?;
+            return Ok(Tree {
+                line,
+                value: Value::List(items),
+            });
+        }
+        if first.has_key() {
+            let pairs = self.pairs(indent, &first, rest)?;
+            return Ok(Tree {
+                line,
+                value: Value::Map(pairs),
+            });
+        }
+        single(self.alloc, self.depth + 1, &first, rest)
+    }
+}
+
+/// Whether a list or a map begins with this line.
+fn begins_block(first: &Line<'_>) -> bool
+    ensures { result ≡ spec.begins_block first.now }
+{
+    first.is_dash() || first.has_key()
+}
+
+/// A block where no list and no map may be opened.
+#[tactic(auto, unfolding(crate::specs::Blocks::block))]
+fn shallow(alloc: Global, first: &Line<'_>, rest: &[Line<'_>]) -> Result<Tree, YamlError>
+    ensures { Gives (spec.block_of 0 first.now rest.now) result }
+{
+    if begins_block(first) {
+        return Err(refuse(first.number(), YamlKind::TooDeep));
+    }
+    single(alloc, 0, first, rest)
+}
+
+/// A block of lines, with lists and maps no deeper than `depth`.
+///
+/// # Errors
+///
+/// The first fault of its structure, or that memory was refused.
+pub fn block<'t>(
+    alloc: Global,
+    depth: usize,
+    first: Line<'t>,
+    rest: &[Line<'t>],
+) -> Result<Tree, YamlError>
+    ensures { Gives (spec.block_of depth first.entry rest.now) result }
+{
+    if depth == 0 {
+        return shallow(alloc, &first, rest);
+    }
+    Blocks {
+        alloc,
+        depth: depth - 1,
+        block,
+    }
+    .nested(first, rest)
 }
