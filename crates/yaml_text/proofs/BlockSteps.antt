@@ -1,17 +1,17 @@
 -- One line more, at the definitions of lists and maps in blocks.
-use Rattle.std.proofs.Common.{◌≡◌, ℕ, suc, zero, ◌+◌, ◌-◌, ◌<◌, ◌≤◌, Bool, true, false, cond, eqb, List, [], ◌∷◌, ◌++◌, length, take, drop, get_or, Ok, Err, refl, ap, sym, ◌∙◌, arith}
+use Rattle.std.proofs.Common.{◌≡◌, ℕ, suc, zero, ◌+◌, ◌-◌, ◌<◌, ◌≤◌, Bool, true, false, cond, eqb, List, [], ◌∷◌, ◌++◌, length, take, drop, get_or, Result, Ok, Err, refl, subst, ap, sym, ◌∙◌, arith}
 use Rattle.std.proofs.lemmas.List.{at_drop_more, take_all, drop_all, length-drop}
 use Rattle.std.proofs.Math.Seq.{drop-nil}
 use Rattle.yaml_text.specs.declared.fault.YamlKind.TheVariants.{Indent, NoColon}
 use Rattle.yaml_text.specs.declared.fault.YamlError.{YamlError}
 use Rattle.yaml_text.specs.declared.tree.Tree.{Tree}
 use Rattle.yaml_text.specs.declared.tree.Pair.{Pair}
-use Rattle.yaml_text.specs.Outcomes.{Outcome, refuse, ◌>>=◌}
+use Rattle.yaml_text.specs.Outcomes.{Outcome, refuse, Gives, ◌>>=◌}
 use Rattle.yaml_text.specs.Lines.{Bytes, Line}
 use Rattle.yaml_text.specs.Words.{Words}
 use Rattle.yaml_text.specs.Tokens.{token, behind}
 use Rattle.yaml_text.specs.SameKeys.{SameKeys}
-use Rattle.yaml_text.specs.Flow.{key, pair_at, list_at, map_at, as_pair}
+use Rattle.yaml_text.specs.Flow.{key, empty_at, pair_at, list_at, map_at, as_pair}
 use Rattle.yaml_text.specs.Blocks.{is_item, deep, content, inside, items, value, value_lines, pairs, is_dash, is_key, block, single}
 use Rattle.yaml_text.proofs.FlowSteps.{bind_same, key_same, keys_more}
 
@@ -225,3 +225,21 @@ pub block_single : (depth : ℕ) (line : Line) (ls : List Line) → is_dash line
     → block (depth + 1) (line ∷ ls) ≡ single (depth + 1) line ls
 unfolding block
 block_single depth line ls dash named = let e : depth + 1 ≡ suc depth = omega arith in ap (λ d. block d (line ∷ ls)) e ∙ rw (dash, named) (ap (λ d. single d line ls) (sym e))
+
+-- no line
+pub block_none : (depth : ℕ) → block depth [] ≡ Ok (empty_at 1)
+unfolding block
+block_none zero = refl
+block_none (suc depth) = refl
+
+-- a slice by its first element and the others
+pub first_and_others : (ls : List Line) (first : Line) → 0 < length ls → first ≡ get_or ls 0 first → ls ≡ first ∷ take (length ls - 1) (drop 1 ls)
+first_and_others ls first some is = next_line 0 ls first some is ∙ ap (λ t. first ∷ t) (sym (lines_from_place 1 ls))
+
+pub block_empty : (depth : ℕ) (ls : List Line) → length ls ≡ 0 → block depth ls ≡ Ok (empty_at 1)
+block_empty depth [] none = block_none depth
+block_empty depth (l ∷ ls) none = absurd (omega arith)
+
+pub block_whole : (depth : ℕ) (ls : List Line) (first : Line) (r : Result Tree YamlError) → 0 < length ls → first ≡ get_or ls 0 first
+    → Gives (block depth (first ∷ take (length ls - 1) (drop 1 ls))) r → Gives (block depth ls) r
+block_whole depth ls first r some is h = let P : List Line → Type 0 = λ t. Gives (block depth t) r in subst P (sym (first_and_others ls first some is)) h

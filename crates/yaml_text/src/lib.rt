@@ -6,10 +6,12 @@ mod fault;
 mod flow;
 mod keys;
 mod line;
+mod reader;
 mod text;
 mod token;
 mod tree;
 
 pub use fault::{YamlError, YamlFault, YamlKind};
+pub use reader::read;
 pub use text::Text;
 pub use tree::{Pair, Tree, Value};
