@@ -50,7 +50,7 @@ item_line_wrong inner indent found line ls h = rw h refl
 
 item_line_right : (inner : List Line → Outcome Tree) (indent : ℕ) (found : List Tree) (line : Line) (ls : List Line) → is_item indent line ≡ true
     → items inner indent 0 found (line ∷ ls)
-      ≡ (inside inner line.number (content line (take (deep indent ls) ls)) >>= (λ item. items inner indent (deep indent ls) (found ++ item ∷ []) ls))
+    ≡ (inside inner line.number (content line (take (deep indent ls) ls)) >>= (λ item. items inner indent (deep indent ls) (found ++ item ∷ []) ls))
 unfolding items
 item_line_right inner indent found line ls h = rw h refl
 
@@ -68,7 +68,7 @@ item_taken inner indent found line rest taken at k so_far h count part =
     ∙ ap (λ n. inside inner line.number (content line (take n (drop at rest))) >>= (λ item. items inner indent n (found ++ item ∷ []) (drop at rest))) (sym same)
     ∙ ap (λ ls. inside inner line.number (content line ls) >>= (λ item. items inner indent k (found ++ item ∷ []) (drop at rest))) (sym part)
     ∙ bind_same (inside inner line.number (content line taken)) _ _ (λ item.
-        items_skip inner indent k (found ++ item ∷ []) (drop at rest) ∙ ap (items inner indent 0 (found ++ item ∷ [])) (dropped_twice at k rest))
+    items_skip inner indent k (found ++ item ∷ []) (drop at rest) ∙ ap (items inner indent 0 (found ++ item ∷ [])) (dropped_twice at k rest))
 
 pub item_failed : {whole : Outcome (List Tree)} (inner : List Line → Outcome Tree) (indent : ℕ) (found : List Tree) (line : Line) (rest taken : List Line) (at k : ℕ) (e : YamlError)
     → whole ≡ items inner indent 0 found (line ∷ drop at rest) → is_item indent line ≡ true
@@ -133,12 +133,12 @@ module _ (inner : List Line → Outcome Tree) (depth indent : ℕ) where
   pairs_same (suc k) xs ys found (l ∷ ls) same = pairs_same k xs ys found ls same
   pairs_same zero xs ys found (l ∷ ls) same =
       ap (λ o. cond (eqb l.indent indent) o (refuse l.number Indent))
-        (ap (λ o. o >>= (λ k. value inner depth l.number (behind l.text) (take (value_lines indent (behind l.text) ls) ls) >>= (λ v.
-            pairs inner depth indent (value_lines indent (behind l.text) ls) (xs ++ k.text ∷ []) (found ++ pair_at l.number k.text v ∷ []) ls)))
-          (key_same l.number NoColon xs ys same (token l.text))
-        ∙ bind_same (key l.number NoColon ys (token l.text)) _ _ (λ k.
-            bind_same (value inner depth l.number (behind l.text) (take (value_lines indent (behind l.text) ls) ls)) _ _ (λ v.
-              pairs_same (value_lines indent (behind l.text) ls) (xs ++ k.text ∷ []) (ys ++ k.text ∷ []) (found ++ pair_at l.number k.text v ∷ []) ls (keys_more xs ys k.text same))))
+      (ap (λ o. o >>= (λ k. value inner depth l.number (behind l.text) (take (value_lines indent (behind l.text) ls) ls) >>= (λ v.
+      pairs inner depth indent (value_lines indent (behind l.text) ls) (xs ++ k.text ∷ []) (found ++ pair_at l.number k.text v ∷ []) ls)))
+      (key_same l.number NoColon xs ys same (token l.text))
+      ∙ bind_same (key l.number NoColon ys (token l.text)) _ _ (λ k.
+      bind_same (value inner depth l.number (behind l.text) (take (value_lines indent (behind l.text) ls) ls)) _ _ (λ v.
+      pairs_same (value_lines indent (behind l.text) ls) (xs ++ k.text ∷ []) (ys ++ k.text ∷ []) (found ++ pair_at l.number k.text v ∷ []) ls (keys_more xs ys k.text same))))
 
   pub pair_refused : {whole : Outcome (List Pair)} (seen : List Bytes) (found : List Pair) (line : Line) (ls : List Line)
       → whole ≡ pairs inner depth indent 0 seen found (line ∷ ls) → eqb line.indent indent ≡ false → whole ≡ refuse line.number Indent
@@ -149,7 +149,7 @@ module _ (inner : List Line → Outcome Tree) (depth indent : ℕ) where
   pair_unnamed seen found line ls e so_far h failed =
       so_far ∙ pair_line_right seen found line ls h
       ∙ ap (λ o. o >>= (λ k. value inner depth line.number (behind line.text) (take (value_lines indent (behind line.text) ls) ls) >>= (λ v.
-          pairs inner depth indent (value_lines indent (behind line.text) ls) (seen ++ k.text ∷ []) (found ++ pair_at line.number k.text v ∷ []) ls))) failed
+      pairs inner depth indent (value_lines indent (behind line.text) ls) (seen ++ k.text ∷ []) (found ++ pair_at line.number k.text v ∷ []) ls))) failed
 
   pair_taken : {whole : Outcome (List Pair)} (seen : List Bytes) (found : List Pair) (line : Line) (text : Bytes) (rest taken : List Line) (at n : ℕ) (k : Words)
       → whole ≡ pairs inner depth indent 0 seen found (line ∷ drop at rest) → eqb line.indent indent ≡ true
@@ -158,15 +158,15 @@ module _ (inner : List Line → Outcome Tree) (depth indent : ℕ) where
       → whole ≡ (value inner depth line.number text taken >>= (λ v. pairs inner depth indent 0 (seen ++ k.text ∷ []) (found ++ pair_at line.number k.text v ∷ []) (drop (at + n) rest)))
   pair_taken seen found line text rest taken at n k so_far h here count part named =
       let same : n ≡ value_lines indent (behind line.text) (drop at rest) =
-        count ∙ ap (value_lines indent text) (lines_from_place at rest) ∙ ap (λ bs. value_lines indent bs (drop at rest)) here in
+      count ∙ ap (value_lines indent text) (lines_from_place at rest) ∙ ap (λ bs. value_lines indent bs (drop at rest)) here in
       so_far ∙ pair_line_right seen found line (drop at rest) h ∙ ap (after_line seen found line (drop at rest)) (sym same)
       ∙ ap (λ o. o >>= (λ x. value inner depth line.number (behind line.text) (take n (drop at rest)) >>= (λ v.
-          pairs inner depth indent n (seen ++ x.text ∷ []) (found ++ pair_at line.number x.text v ∷ []) (drop at rest)))) named
+      pairs inner depth indent n (seen ++ x.text ∷ []) (found ++ pair_at line.number x.text v ∷ []) (drop at rest)))) named
       ∙ ap (λ bs. value inner depth line.number bs (take n (drop at rest)) >>= (λ v. pairs inner depth indent n (seen ++ k.text ∷ []) (found ++ pair_at line.number k.text v ∷ []) (drop at rest))) (sym here)
       ∙ ap (λ ls. value inner depth line.number text ls >>= (λ v. pairs inner depth indent n (seen ++ k.text ∷ []) (found ++ pair_at line.number k.text v ∷ []) (drop at rest))) (sym part)
       ∙ bind_same (value inner depth line.number text taken) _ _ (λ v.
-          pairs_skip n (seen ++ k.text ∷ []) (found ++ pair_at line.number k.text v ∷ []) (drop at rest)
-          ∙ ap (pairs inner depth indent 0 (seen ++ k.text ∷ []) (found ++ pair_at line.number k.text v ∷ [])) (dropped_twice at n rest))
+      pairs_skip n (seen ++ k.text ∷ []) (found ++ pair_at line.number k.text v ∷ []) (drop at rest)
+      ∙ ap (pairs inner depth indent 0 (seen ++ k.text ∷ []) (found ++ pair_at line.number k.text v ∷ [])) (dropped_twice at n rest))
 
   pub pair_failed : {whole : Outcome (List Pair)} (seen : List Bytes) (found : List Pair) (line : Line) (text : Bytes) (rest taken : List Line) (at n : ℕ) (k : Words) (e : YamlError)
       → whole ≡ pairs inner depth indent 0 seen found (line ∷ drop at rest) → eqb line.indent indent ≡ true

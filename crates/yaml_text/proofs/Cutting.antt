@@ -139,9 +139,10 @@ cut_step b [] n within is other rest = absurd (omega arith)
 cut_step b (x ∷ bs) zero within is other rest =
     let at_lf = lf_first (eqb x 10) (line_length bs) is in
     let P : Bool → Type 0 = λ t. eqb b 13 ≡ t → cut (b ∷ x ∷ bs) ≡ take (cond (t && true) 0 1) (b ∷ x ∷ bs) ∷ cut (drop 1 (x ∷ bs)) in
-    elim (eqb b 13) as P
-      [ true ↦ λ e. cut_cr b (x ∷ bs) other (rw (e, at_lf) refl) ∙ rest
-      | false ↦ λ e. cut_byte b (x ∷ bs) other (rw e refl) ∙ onto_first_of b [] (cut (drop 1 (x ∷ bs))) _ rest ]
+    elim (eqb b 13) as P [
+      | true ↦ λ e. cut_cr b (x ∷ bs) other (rw (e, at_lf) refl) ∙ rest
+      | false ↦ λ e. cut_byte b (x ∷ bs) other (rw e refl) ∙ onto_first_of b [] (cut (drop 1 (x ∷ bs))) _ rest
+    ]
     refl
 cut_step b (x ∷ bs) (suc m) within is other rest =
     let at_other = lf_later (eqb x 10) m (line_length bs) is in
@@ -151,7 +152,7 @@ cut_step b (x ∷ bs) (suc m) within is other rest =
 
 pub cut_first : (bs : Bytes) (n : ℕ) → n < length bs → n ≡ line_length bs → CutsAt bs n
 cut_first [] n h is = absurd (omega arith)
-cut_first (b ∷ bs) zero h is = 
+cut_first (b ∷ bs) zero h is =
     let e : b ≡ 10 = let at_lf = lf_first (eqb b 10) (line_length bs) is in grind (arith, nat_tests) in
     ap (λ x. cut (x ∷ bs)) e ∙ cut_lf bs
 cut_first (b ∷ bs) (suc m) h is =

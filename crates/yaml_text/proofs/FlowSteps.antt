@@ -64,7 +64,7 @@ pub flow_more : {whole : Bool} (n m : ℕ) (goals rest new : List Goal) (goal : 
 flow_more n m goals rest new goal text met turn top so_far h e =
     let some = some_met (step goal (token text)) rest new (λ more. fits m (more ++ reverse rest) (behind text)) met h e in
     let back : reverse new ≡ some.0 ++ reverse rest =
-      ap reverse some.2 ∙ reverse-append rest (reverse some.0) ∙ ap (λ gs. gs ++ reverse rest) (reverse-reverse some.0) in
+    ap reverse some.2 ∙ reverse-append rest (reverse some.0) ∙ ap (λ gs. gs ++ reverse rest) (reverse-reverse some.0) in
     fits_top n m goals rest goal text turn top so_far ∙ some.1 ∙ sym (ap (λ gs. fits m gs (behind text)) back)
 
 none_left : (goals : List Goal) (text : Bytes) → goals ≢ [] → fits 0 goals text ≡ false
@@ -167,10 +167,10 @@ unfolding pairs_from
 pairs_same line inner zero xs ys found text same = refl
 pairs_same line inner (suc n) xs ys found text same =
     ap (λ o. o >>= (λ k. inner (behind text) >>= (λ x. behind_pair line (token x.1) (pairs_from line inner n (xs ++ k.text ∷ []) (found ++ pair_at line k.text x.0 ∷ []) (behind x.1)) (Ok (found ++ pair_at line k.text x.0 ∷ [], behind x.1)))))
-      (key_same line Flow xs ys same (token text))
+    (key_same line Flow xs ys same (token text))
     ∙ bind_same (key line Flow ys (token text)) _ _ (λ k. bind_same (inner (behind text)) _ _ (λ x.
-        ap (λ more. behind_pair line (token x.1) more (Ok (found ++ pair_at line k.text x.0 ∷ [], behind x.1)))
-          (pairs_same line inner n (xs ++ k.text ∷ []) (ys ++ k.text ∷ []) (found ++ pair_at line k.text x.0 ∷ []) (behind x.1) (keys_more xs ys k.text same))))
+    ap (λ more. behind_pair line (token x.1) more (Ok (found ++ pair_at line k.text x.0 ∷ [], behind x.1)))
+    (pairs_same line inner n (xs ++ k.text ∷ []) (ys ++ k.text ∷ []) (found ++ pair_at line k.text x.0 ∷ []) (behind x.1) (keys_more xs ys k.text same))))
 
 pub pair_spoilt : {whole : Outcome (List Pair × Bytes)} (line : ℕ) (inner : Parser Tree) (n : ℕ) (seen : List Bytes) (found : List Pair) (text at rest : Bytes) (k : Words) (x : Tree) (t : Token)
     → whole ≡ pairs_from line inner (suc n) seen found text → key line Flow seen (token text) ≡ Ok k → at ≡ behind text → inner at ≡ Ok (x, rest) → t ≡ token rest → t ≢ Comma → t ≢ CloseMap
@@ -221,10 +221,10 @@ value_suc line depth text t is =
     ap (λ d. value line d text) e ∙ ap (λ u. value_by line (items line (value line depth)) (pairs line (value line depth)) u (behind text)) (sym is)
 
 pub value_zero_wrong : (line : ℕ) (text : Bytes) (t : Token) → t ≡ token text → t ≢ OpenList → t ≢ OpenMap → ((w : Words) → t ≢ Scalar w) → value line 0 text ≡ refuse line Flow
-value_zero_wrong line text t is a b s = 
+value_zero_wrong line text t is a b s =
     value_zero line text t is ∙ by_wrong line (λ rest. refuse line TooDeep) (λ rest. refuse line TooDeep) t (behind text) a b s
 
 pub value_suc_wrong : (line depth : ℕ) (text : Bytes) (t : Token) → t ≡ token text → t ≢ OpenList → t ≢ OpenMap → ((w : Words) → t ≢ Scalar w)
     → value line (depth + 1) text ≡ refuse line Flow
-value_suc_wrong line depth text t is a b s = 
+value_suc_wrong line depth text t is a b s =
     value_suc line depth text t is ∙ by_wrong line (items line (value line depth)) (pairs line (value line depth)) t (behind text) a b s

@@ -104,8 +104,8 @@ module _ (inner : List Line → Outcome Tree) where
   pairs depth indent zero seen found (line ∷ lines) =
       if line.indent == indent
       then key line.number kind.NoColon seen (token line.text) >>= (λ k.
-        value depth line.number (behind line.text) (take (value_lines indent (behind line.text) lines) lines) >>= (λ v.
-        pairs depth indent (value_lines indent (behind line.text) lines) (seen ++ k.text ∷ []) (found ++ pair_at line.number k.text v ∷ []) lines))
+      value depth line.number (behind line.text) (take (value_lines indent (behind line.text) lines) lines) >>= (λ v.
+      pairs depth indent (value_lines indent (behind line.text) lines) (seen ++ k.text ∷ []) (found ++ pair_at line.number k.text v ∷ []) lines))
       else refuse line.number kind.Indent
 
 -- A block of lines, with lists and maps no deeper than the number.

@@ -136,7 +136,7 @@ module _ (line : ℕ) (inner : Parser Tree) where
   pairs_from (suc n) seen found text =
       key line kind.Flow seen (token text) >>= (λ k. inner (behind text) >>= (λ x.
       behind_pair line (token x.1) (pairs_from n (seen ++ k.text ∷ []) (found ++ pair_at line k.text x.0 ∷ []) (behind x.1))
-        (Ok (found ++ pair_at line k.text x.0 ∷ [], behind x.1))))
+      (Ok (found ++ pair_at line k.text x.0 ∷ [], behind x.1))))
 
   abbrev pub pairs_by : Token → Parser (List Pair)
   pairs_by CloseMap text = Ok ([], behind text)

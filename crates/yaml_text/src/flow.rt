@@ -308,12 +308,7 @@ fn shallow(alloc: Global, line: u32, pieces: &mut Pieces<'_>) -> Result<Tree, Ya
 }
 
 /// A value with lists and maps no deeper than `depth`.
-fn value(
-    alloc: Global,
-    depth: usize,
-    line: u32,
-    pieces: &mut Pieces<'_>,
-) -> Result<Tree, YamlError>
+fn value(alloc: Global, depth: usize, line: u32, pieces: &mut Pieces<'_>) -> Result<Tree, YamlError>
     ensures { Reads (spec.value line depth pieces.old) result pieces.new }
 {
     if depth == 0 {

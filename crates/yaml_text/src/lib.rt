@@ -7,6 +7,8 @@ mod flow;
 mod keys;
 mod line;
 mod reader;
+#[cfg(test)]
+mod tests;
 mod text;
 mod token;
 mod tree;

@@ -14,7 +14,9 @@ use std::alloc::Global;
 use std::marker::Model;
 
 const TAB: u8 = 9;
+
 const LF: u8 = 10;
+
 const CR: u8 = 13;
 
 /// A line without its comment and its trailing spaces.

@@ -16,12 +16,12 @@ returns-in_default c =
 pub returns-then-not-branch : goal.returns-then-not-branch
 returns-then-not-branch c =
     ap Ok (flow_wrong (length c.args.text.now - c.loop-turn._turn) (length c.args.text.now - (c.loop-turn._turn + 1)) c.loop-turn.goals c.pop.new.self c.meet.new.goals c.in-Some.goal c.loop-turn.pieces c.in_ok-meet.field-0
-      (omega arith) c.in-Some.ensures c.loop-turn.invariant (rw (← c.take-token.ensures.token) c.in_ok-meet.ensures) c.if-not-branch.true)
+    (omega arith) c.in-Some.ensures c.loop-turn.invariant (rw (← c.take-token.ensures.token) c.in_ok-meet.ensures) c.if-not-branch.true)
 
 pub loop-turn-preserved : goal.loop-turn-preserved
 loop-turn-preserved c =
     rw c.take-token.ensures.behind (flow_more (length c.args.text.now - c.loop-turn._turn) (length c.args.text.now - (c.loop-turn._turn + 1)) c.loop-turn.goals c.pop.new.self c.meet.new.goals c.in-Some.goal c.loop-turn.pieces c.in_ok-meet.field-0
-      (omega arith) c.in-Some.ensures c.loop-turn.invariant (rw (← c.take-token.ensures.token) c.in_ok-meet.ensures) c.if-not-branch.false)
+    (omega arith) c.in-Some.ensures c.loop-turn.invariant (rw (← c.take-token.ensures.token) c.in_ok-meet.ensures) c.if-not-branch.false)
 
 pub returns-then-is_empty : goal.returns-then-is_empty
 returns-then-is_empty c =
@@ -30,4 +30,4 @@ returns-then-is_empty c =
 pub returns : goal.returns
 returns c =
     ap Ok (flow_stops (length c.args.text.now - c.loop-turn._turn) c.loop-turn.goals c.loop-turn.pieces (omega arith)
-      (λ e. true≢false (sym (c.is_empty-2.ensures.1 e) ∙ c.if-is_empty.false)) c.loop-turn.invariant)
+    (λ e. true≢false (sym (c.is_empty-2.ensures.1 e) ∙ c.if-is_empty.false)) c.loop-turn.invariant)

@@ -21,7 +21,7 @@ pub returns-in_default : goal.returns-in_default
 returns-in_default g c = λ _.
     let e = one_more (λ n. items_from c.args.self.now.line (value c.args.self.now.line c.args.self.now.depth) n c.loop-turn.found c.loop-turn.pieces) _ c.loop-turn._turn c.loop-turn-test.true c.loop-turn.invariant in
     item_spoilt c.args.self.now.line (value c.args.self.now.line c.args.self.now.depth) _ c.loop-turn.found c.loop-turn.pieces c.value.new.pieces c.in_ok-value.field-0 c.take.result
-      e c.in_ok-value.ensures c.take.ensures.token c.in_default.not-Comma c.in_default.not-CloseList ∙ sym (ap Err c.refuse.ensures)
+    e c.in_ok-value.ensures c.take.ensures.token c.in_default.not-Comma c.in_default.not-CloseList ∙ sym (ap Err c.refuse.ensures)
 
 pub loop-turn-preserved : goal.loop-turn-preserved
 unfolding items_from
