@@ -1,0 +1,1 @@
+use Rattle.yaml_text.proofs.block.+block.Goals as goal

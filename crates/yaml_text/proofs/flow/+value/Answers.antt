@@ -1,0 +1,1 @@
+use Rattle.yaml_text.proofs.flow.+value.Goals as goal

@@ -1,0 +1,8 @@
+use Rattle.std.proofs.Common.{◌≡◌, ◌-◌, [], length}
+use Rattle.yaml_text.specs.Flow.{items_from, value}
+use Rattle.yaml_text.proofs.flow.Reader.items.Given as goal
+
+abbrev pub invariant-loop-turn : goal.invariant-loop-turn
+invariant-loop-turn g l =
+    items_from l.self.line (value l.self.line l.self.depth) (length l.fn.pieces) [] l.fn.pieces
+    ≡ items_from l.self.line (value l.self.line l.self.depth) (l._turn-end - l._turn) l.found l.pieces

@@ -1,0 +1,13 @@
+pub mod Kinds
+pub mod Outcomes
+pub mod Lines
+pub mod Kept
+pub mod Words
+pub mod KeptWords
+pub mod Tokens
+pub mod SameKeys
+pub mod Keys
+pub mod Flow
+pub mod Nests
+pub mod Blocks
+pub mod NestsBlock

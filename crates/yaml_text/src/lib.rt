@@ -1,0 +1,19 @@
+//! Reads the part of YAML in which the input files are written, as a tree, or names its first fault.
+#![tactic(auto)]
+
+mod block;
+mod fault;
+mod flow;
+mod keys;
+mod line;
+mod reader;
+#[cfg(test)]
+mod tests;
+mod text;
+mod token;
+mod tree;
+
+pub use fault::{YamlError, YamlFault, YamlKind};
+pub use reader::read;
+pub use text::Text;
+pub use tree::{Pair, Tree, Value};
