@@ -11,3 +11,6 @@ mod words;
 pub use message::tell;
 pub use status::{Status, exit_code};
 pub use top::kira_alone;
+
+#[cfg(test)]
+mod tests;

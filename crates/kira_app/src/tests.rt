@@ -1,0 +1,240 @@
+//! Worked rows and failing calls, over files and sinks in memory. The coefficients were worked out by
+//! hand from the two equations, and their residues by Python.
+
+use super::*;
+use kira_outside::{Entry, MemoryFiles, MemorySink, Text8};
+use std::alloc::Global;
+use std::test::Fail;
+
+const JOBS: &str = "\
+jobs:
+  - reduce_sectors:
+      reduce:
+        - {topologies: [tad], sectors: [1], r: 2, s: 0}
+      select_integrals:
+        select_mandatory_recursively:
+          - {topologies: [tad], sectors: [1], r: 3, s: 0}
+      run_initiate: true
+      run_triangular: true
+      run_back_substitution: true
+      numeric_point: {prime: 101, d: 7, m2: 3}
+";
+
+const FAMILIES: &str = "\
+integralfamilies:
+  - name: \"tad\"
+    loop_momenta: [k1]
+    top_level_sectors: [1]
+    propagators:
+      - [\"k1\", \"m2\"]
+";
+
+const KINEMATICS: &str = "\
+kinematics :
+  incoming_momenta: []
+  outgoing_momenta: []
+  kinematic_invariants:
+    - [m2, 2]
+  scalarproduct_rules: []
+";
+
+const TADPOLE: &str = "\
+tad[1] = 1*tad[1]
+tad[2] = 85*tad[1]
+tad[3] = 97*tad[1]
+masters 1
+tad[1]
+";
+
+fn entry(alloc: Global, name: &str, text: &str) -> Result<Entry, Fail> {
+    Ok(Entry {
+        name: Text8::new(alloc, name)?,
+        bytes: text.as_bytes().to_vec(alloc)?,
+    })
+}
+
+// The tadpole's files with this job file, where the loads with these numbers fail.
+fn files(alloc: Global, jobs: &str, failing: Vec<u64>) -> Result<MemoryFiles, Fail> {
+    let mut entries = Vec::new(alloc);
+    entries.push(entry(alloc, "jobs.yaml", jobs)?)?;
+    entries.push(entry(alloc, "config/integralfamilies.yaml", FAMILIES)?)?;
+    entries.push(entry(alloc, "config/kinematics.yaml", KINEMATICS)?)?;
+    Ok(MemoryFiles::new(entries, failing))
+}
+
+// How a call ended, and what it wrote.
+#[derive(Drop)]
+struct Ending {
+    status: Status,
+    out: Vec<u8>,
+    err: Vec<u8>,
+}
+
+// A call with these words, separated by blanks, over these files and this sink.
+fn call_with(
+    alloc: Global,
+    line: &str,
+    files: &mut MemoryFiles,
+    out: &mut MemorySink,
+) -> Result<Ending, Fail> {
+    let mut words = Vec::new(alloc);
+    for word in line.split_whitespace() {
+        words.push(String::from_str(alloc, word)?)?;
+    }
+    let mut err = MemorySink::new(alloc, Vec::new(alloc), 7, 65536)?;
+    let status = kira_alone(alloc, &words, files, out, &mut err);
+    Ok(Ending {
+        status,
+        out: out.bytes().to_vec(alloc)?,
+        err: err.bytes().to_vec(alloc)?,
+    })
+}
+
+fn plain_sink(alloc: Global) -> Result<MemorySink, Fail> {
+    Ok(MemorySink::new(alloc, Vec::new(alloc), 65536, 65536)?)
+}
+
+fn plain_call(alloc: Global, line: &str) -> Result<Ending, Fail> {
+    let mut out = plain_sink(alloc)?;
+    call_with(
+        alloc,
+        line,
+        &mut files(alloc, JOBS, Vec::new(alloc))?,
+        &mut out,
+    )
+}
+
+#[test]
+fn tables_of_the_tadpole(rt: HostRuntime) -> Result<(), Fail> {
+    let rows = [
+        ("jobs.yaml", TADPOLE),
+        (
+            "jobs.yaml d=2",
+            "tad[1] = 1*tad[1]\ntad[2] = 0\ntad[3] = 0\nmasters 1\ntad[1]\n",
+        ),
+        (
+            "jobs.yaml m2=0",
+            "tad[1] = 0\ntad[2] = 0\ntad[3] = 1*tad[3]\nmasters 1\ntad[3]\n",
+        ),
+        ("jobs.yaml m2=104 d=108", TADPOLE),
+        (
+            "jobs.yaml prime=2147483647",
+            "tad[1] = 1*tad[1]\ntad[2] = 357913942*tad[1]\ntad[3] = 1163220309*tad[1]\nmasters 1\ntad[1]\n",
+        ),
+        (
+            "jobs.yaml prime=9223372036854775783",
+            "tad[1] = 1*tad[1]\ntad[2] = 1537228672809129298*tad[1]\ntad[3] = 4995993186629670216*tad[1]\nmasters 1\ntad[1]\n",
+        ),
+        (
+            "jobs.yaml prime=25",
+            "tad[1] = 1*tad[1]\ntad[2] = 5*tad[1]\ntad[3] = 20*tad[1]\nmasters 1\ntad[1]\n",
+        ),
+    ];
+    for (line, table) in rows {
+        let ended = plain_call(rt.alloc(), line)?;
+        assert_eq!(rt; ended.status, Status::Ok, "{line}");
+        assert_eq!(rt; ended.out.as_slice(), table.as_bytes(), "{line}");
+        assert!(rt; ended.err.is_empty(), "{line}");
+    }
+    Ok(())
+}
+
+#[test]
+fn a_divisor_of_the_modulus_is_named(rt: HostRuntime) -> Result<(), Fail> {
+    let ended = plain_call(rt.alloc(), "jobs.yaml prime=15")?;
+    assert!(rt; matches!(&ended.status, Status::Composite(fault) if fault.divisor == 3));
+    assert_eq!(rt; exit_code(&ended.status), 5);
+    assert!(rt; ended.out.is_empty());
+    assert_eq!(rt;
+        ended.err.as_slice(),
+        b"kira: the prime is divisible by 3\n".as_slice()
+    );
+    Ok(())
+}
+
+#[test]
+fn other_words_are_not_served(rt: HostRuntime) -> Result<(), Fail> {
+    let lines = [
+        "",
+        "job.yaml",
+        "d=7 jobs.yaml",
+        "jobs.yaml d=7 d=7",
+        "jobs.yaml d=",
+        "jobs.yaml m2=-3",
+        "jobs.yaml d=1234567890123456789",
+        "jobs.yaml prime=2",
+        "jobs.yaml prime=1",
+        "jobs.yaml prime=9223372036854775809",
+        "jobs.yaml x=1",
+    ];
+    for line in lines {
+        let ended = plain_call(rt.alloc(), line)?;
+        assert_eq!(rt; ended.status, Status::NotYet, "{line}");
+        assert_eq!(rt;
+            ended.err.as_slice(),
+            b"kira: not yet\n".as_slice(),
+            "{line}"
+        );
+        assert!(rt; ended.out.is_empty(), "{line}");
+    }
+    Ok(())
+}
+
+#[test]
+fn other_or_missing_files_are_not_served(rt: HostRuntime) -> Result<(), Fail> {
+    let alloc = rt.alloc();
+    for jobs in ["", "jobs:\n", "jobs: more"] {
+        let mut out = plain_sink(alloc)?;
+        let mut held = files(alloc, jobs, Vec::new(alloc))?;
+        let ended = call_with(alloc, "jobs.yaml", &mut held, &mut out)?;
+        assert_eq!(rt; ended.status, Status::NotYet);
+        assert!(rt; ended.out.is_empty());
+    }
+    let mut entries = Vec::new(alloc);
+    entries.push(entry(alloc, "jobs.yaml", JOBS)?)?;
+    let mut out = plain_sink(alloc)?;
+    let ended = call_with(
+        alloc,
+        "jobs.yaml",
+        &mut MemoryFiles::new(entries, Vec::new(alloc)),
+        &mut out,
+    )?;
+    assert_eq!(rt; ended.status, Status::NotYet);
+    Ok(())
+}
+
+#[test]
+fn a_failing_load_is_a_read_fault(rt: HostRuntime) -> Result<(), Fail> {
+    let alloc = rt.alloc();
+    for call in [1, 2, 3] {
+        let mut out = plain_sink(alloc)?;
+        let mut held = files(alloc, JOBS, vec![in alloc; call]?)?;
+        let ended = call_with(alloc, "jobs.yaml", &mut held, &mut out)?;
+        assert_eq!(rt; ended.status, Status::ReadFault);
+        assert!(rt; ended.out.is_empty());
+        assert_eq!(rt; ended.err.as_slice(), b"kira: reading failed\n".as_slice());
+    }
+    Ok(())
+}
+
+#[test]
+fn a_failing_write_leaves_a_prefix(rt: HostRuntime) -> Result<(), Fail> {
+    let alloc = rt.alloc();
+    // The text has 73 bytes, so that so many writes are made of each piece, and then one flush.
+    for (piece, writes) in [(1, 73), (7, 11), (10, 8)] {
+        for call in 1..writes + 2u64 {
+            let mut out = MemorySink::new(alloc, vec![in alloc; call]?, piece, 65536)?;
+            let mut held = files(alloc, JOBS, Vec::new(alloc))?;
+            let ended = call_with(alloc, "jobs.yaml", &mut held, &mut out)?;
+            let sent = TADPOLE.len().min((call as usize - 1).saturating_mul(piece));
+            assert_eq!(rt; ended.status, Status::WriteFault, "{piece} {call}");
+            assert_eq!(rt;
+                ended.out.as_slice(),
+                &TADPOLE.as_bytes()[..sent],
+                "{piece} {call}"
+            );
+            assert_eq!(rt; ended.err.as_slice(), b"kira: writing failed\n".as_slice());
+        }
+    }
+    Ok(())
+}
