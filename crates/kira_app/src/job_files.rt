@@ -9,7 +9,7 @@ use kira_outside::{Files, LoadFault};
 use std::alloc::Global;
 
 // The tadpole's files, as they lie beside the program.
-const JOBS: &[u8] = b"\
+pub(crate) const JOBS: &[u8] = b"\
 jobs:
   - reduce_sectors:
       reduce:
@@ -23,7 +23,7 @@ jobs:
       numeric_point: {prime: 101, d: 7, m2: 3}
 ";
 
-const FAMILIES: &[u8] = b"\
+pub(crate) const FAMILIES: &[u8] = b"\
 integralfamilies:
   - name: \"tad\"
     loop_momenta: [k1]
@@ -32,7 +32,7 @@ integralfamilies:
       - [\"k1\", \"m2\"]
 ";
 
-const KINEMATICS: &[u8] = b"\
+pub(crate) const KINEMATICS: &[u8] = b"\
 kinematics :
   incoming_momenta: []
   outgoing_momenta: []

@@ -2,41 +2,10 @@
 //! hand from the two equations, and their residues by Python.
 
 use super::*;
+use crate::job_files::{FAMILIES, JOBS, KINEMATICS};
 use kira_outside::{Entry, MemoryFiles, MemorySink, Text8};
 use std::alloc::Global;
 use std::test::Fail;
-
-const JOBS: &str = "\
-jobs:
-  - reduce_sectors:
-      reduce:
-        - {topologies: [tad], sectors: [1], r: 2, s: 0}
-      select_integrals:
-        select_mandatory_recursively:
-          - {topologies: [tad], sectors: [1], r: 3, s: 0}
-      run_initiate: true
-      run_triangular: true
-      run_back_substitution: true
-      numeric_point: {prime: 101, d: 7, m2: 3}
-";
-
-const FAMILIES: &str = "\
-integralfamilies:
-  - name: \"tad\"
-    loop_momenta: [k1]
-    top_level_sectors: [1]
-    propagators:
-      - [\"k1\", \"m2\"]
-";
-
-const KINEMATICS: &str = "\
-kinematics :
-  incoming_momenta: []
-  outgoing_momenta: []
-  kinematic_invariants:
-    - [m2, 2]
-  scalarproduct_rules: []
-";
 
 const TADPOLE: &str = "\
 tad[1] = 1*tad[1]
@@ -46,15 +15,15 @@ masters 1
 tad[1]
 ";
 
-fn entry(alloc: Global, name: &str, text: &str) -> Result<Entry, Fail> {
+fn entry(alloc: Global, name: &str, bytes: &[u8]) -> Result<Entry, Fail> {
     Ok(Entry {
         name: Text8::new(alloc, name)?,
-        bytes: text.as_bytes().to_vec(alloc)?,
+        bytes: bytes.to_vec(alloc)?,
     })
 }
 
 // The tadpole's files with this job file, where the loads with these numbers fail.
-fn files(alloc: Global, jobs: &str, failing: Vec<u64>) -> Result<MemoryFiles, Fail> {
+fn files(alloc: Global, jobs: &[u8], failing: Vec<u64>) -> Result<MemoryFiles, Fail> {
     let mut entries = Vec::new(alloc);
     entries.push(entry(alloc, "jobs.yaml", jobs)?)?;
     entries.push(entry(alloc, "config/integralfamilies.yaml", FAMILIES)?)?;
@@ -106,36 +75,41 @@ fn plain_call(alloc: Global, line: &str) -> Result<Ending, Fail> {
 
 #[test]
 fn tables_of_the_tadpole(rt: HostRuntime) -> Result<(), Fail> {
+    let alloc = rt.alloc();
     let rows = [
-        ("jobs.yaml", TADPOLE),
-        (
-            "jobs.yaml d=2",
-            "tad[1] = 1*tad[1]\ntad[2] = 0\ntad[3] = 0\nmasters 1\ntad[1]\n",
-        ),
-        (
-            "jobs.yaml m2=0",
-            "tad[1] = 0\ntad[2] = 0\ntad[3] = 1*tad[3]\nmasters 1\ntad[3]\n",
-        ),
-        ("jobs.yaml m2=104 d=108", TADPOLE),
+        ("jobs.yaml", "85*tad[1]", "97*tad[1]"),
+        ("jobs.yaml d=2", "0", "0"),
+        ("jobs.yaml m2=104 d=108", "85*tad[1]", "97*tad[1]"),
+        ("jobs.yaml prime=25", "5*tad[1]", "20*tad[1]"),
         (
             "jobs.yaml prime=2147483647",
-            "tad[1] = 1*tad[1]\ntad[2] = 357913942*tad[1]\ntad[3] = 1163220309*tad[1]\nmasters 1\ntad[1]\n",
+            "357913942*tad[1]",
+            "1163220309*tad[1]",
         ),
         (
             "jobs.yaml prime=9223372036854775783",
-            "tad[1] = 1*tad[1]\ntad[2] = 1537228672809129298*tad[1]\ntad[3] = 4995993186629670216*tad[1]\nmasters 1\ntad[1]\n",
-        ),
-        (
-            "jobs.yaml prime=25",
-            "tad[1] = 1*tad[1]\ntad[2] = 5*tad[1]\ntad[3] = 20*tad[1]\nmasters 1\ntad[1]\n",
+            "1537228672809129298*tad[1]",
+            "4995993186629670216*tad[1]",
         ),
     ];
-    for (line, table) in rows {
-        let ended = plain_call(rt.alloc(), line)?;
+    for (line, second, third) in rows {
+        let table = format!(in alloc;
+            "tad[1] = 1*tad[1]\ntad[2] = {second}\ntad[3] = {third}\nmasters 1\ntad[1]\n"
+        )?;
+        let ended = plain_call(alloc, line)?;
         assert_eq!(rt; ended.status, Status::Ok, "{line}");
         assert_eq!(rt; ended.out.as_slice(), table.as_bytes(), "{line}");
         assert!(rt; ended.err.is_empty(), "{line}");
     }
+    Ok(())
+}
+
+#[test]
+fn a_massless_tadpole_is_its_own_master(rt: HostRuntime) -> Result<(), Fail> {
+    let table = "tad[1] = 0\ntad[2] = 0\ntad[3] = 1*tad[3]\nmasters 1\ntad[3]\n";
+    let ended = plain_call(rt.alloc(), "jobs.yaml m2=0")?;
+    assert_eq!(rt; ended.status, Status::Ok);
+    assert_eq!(rt; ended.out.as_slice(), table.as_bytes());
     Ok(())
 }
 
@@ -183,7 +157,7 @@ fn other_words_are_not_served(rt: HostRuntime) -> Result<(), Fail> {
 #[test]
 fn other_or_missing_files_are_not_served(rt: HostRuntime) -> Result<(), Fail> {
     let alloc = rt.alloc();
-    for jobs in ["", "jobs:\n", "jobs: more"] {
+    for jobs in [b"".as_slice(), b"jobs:", b"jobs: more"] {
         let mut out = plain_sink(alloc)?;
         let mut held = files(alloc, jobs, Vec::new(alloc))?;
         let ended = call_with(alloc, "jobs.yaml", &mut held, &mut out)?;
