@@ -249,11 +249,6 @@ pub scan_missed : (order : Order) (rows : List Row) (x : Integral) (n : ℕ) →
 scan_missed order rows x n low high none =
     ap (find (λ r. is_pivot order r x)) (sym (ap (λ k. take k rows) (let e : n ≡ length rows = omega arith in e) ∙ take-length rows)) ∙ none
 
-pub less_of_index : (r : Ordering) → eqb (ordering_index r) 0 ≡ true → r ≡ Less
-less_of_index Less h = refl
-less_of_index Equal h = absurd (false≢true h)
-less_of_index Greater h = absurd (false≢true h)
-
 pub not_less_of_index : (r : Ordering) → eqb (ordering_index r) 0 ≡ false → r ≢ Less
 not_less_of_index Less h e = false≢true (sym h)
 not_less_of_index Equal h e = cc

@@ -1,9 +1,9 @@
 -- Lemmas on the steps of the elimination.
-use Rattle.std.proofs.Common.{◌≡◌, ℕ, zero, suc, ◌+◌, ◌-◌, ◌*◌, ◌%◌, ◌<◌, ◌≤◌, List, [], ◌∷◌, length, get_or, take, Option, Some, None, MatchOption, refl, sym, ap, subst, ◌∙◌, inl, inr, arith}
+use Rattle.std.proofs.Common.{◌≡◌, ℕ, zero, suc, ◌+◌, ◌-◌, ◌*◌, ◌%◌, ◌<◌, ◌≤◌, true, eqb, List, [], ◌∷◌, length, get_or, take, Option, Some, None, MatchOption, Ordering, refl, sym, ap, subst, ◌∙◌, inl, inr, arith}
 use Rattle.std.proofs.Math.Nat.{add-mod-mod, mod_self, mul-one}
 use Rattle.std.specs.declared.cmp.Ordering.TheVariants.{Less, Equal, Greater}
-use Rattle.std.specs.Ordering.{ordering_reverse}
-use Rattle.std.proofs.lemmas.Bool.{cases_order}
+use Rattle.std.specs.Ordering.{ordering_reverse, ordering_index}
+use Rattle.std.proofs.lemmas.Bool.{cases_order, false≢true}
 use Rattle.std.proofs.lemmas.List.{get_or-take, length-take-le}
 use Rattle.std.proofs.lemmas.List.Elements.{All-take}
 use Rattle.integral_index.specs.declared.Order.{Order}
@@ -13,7 +13,7 @@ use Rattle.integral_index.proofs.Orders.{compare-total, compare-IsAntisymmetric}
 use Rattle.sparse_row.specs.Row.{Row, coefficient, IsRow, IsGreatest, IsPivot}
 use Rattle.sparse_row.specs.ReducedList.{Ascend}
 use Rattle.sparse_row.proofs.RowValues.{greatest_same}
-use Rattle.reduction_core.specs.Steps.{HasPivot, IsStairs, IsPivotAt, IsPlaceFor, ShowsNoneWithin, IsCleared}
+use Rattle.reduction_core.specs.Steps.{HasPivot, IsStairs, IsPivotAt, IsPlaceFor, ShowsNoneWithin, IsCleared, IsAboveAll}
 
 -- what the comparison with the greatest integral says of the pivot
 pub pivot_compared : (order own : Order) (row : Row) (greatest x y : Integral) → own ≡ order → IsGreatest own row greatest → IsPivot order row y → compare order greatest x ≡ compare order y x
@@ -168,3 +168,20 @@ ShowsNoneWithin-take order table n low row h none k y l u pivot =
 pub match_weaker : {X P P' : Type 0} {Q Q' : X → Type 0} (o : Option X) → (P → P') → ((x : X) → Q x → Q' x) → MatchOption o P Q → MatchOption o P' Q'
 match_weaker None none some h = none h
 match_weaker (Some x) none some h = some x h
+
+-- ---- an integral above all pivots
+
+pub place_above_all : (order : Order) (table : List Row) (x : Integral) → IsAboveAll order table x → IsPlaceFor order table x (length table)
+place_above_all order table x above =
+    record { within = omega arith; less = λ k y l pivot. above k y l pivot; greater = λ k y l h. absurd (omega arith) }
+
+pub above_all_by_last : (p : ℕ) (order : Order) (table : List Row) (x : Integral) (n : ℕ) (row : Row) → IsStairs p order table → n + 1 ≡ length table → row ≡ get_or table n row → ((y : Integral) → IsPivot order row y → Less ≡ compare order y x) → IsAboveAll order table x
+above_all_by_last p order table x n row stairs last read less k y in_k pivot =
+    let b = between_up p order table stairs x 0 n (length table) row (omega arith) (IsBetween-all order table x) read less in
+    b.less k y (omega arith) pivot
+
+-- a comparison that answered `Less`
+pub less_of_index : (r : Ordering) → eqb (ordering_index r) 0 ≡ true → r ≡ Less
+less_of_index Less h = refl
+less_of_index Equal h = absurd (false≢true h)
+less_of_index Greater h = absurd (false≢true h)

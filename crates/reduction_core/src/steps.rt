@@ -1,11 +1,11 @@
 //! The steps of the elimination: looking a pivot up, and clearing pivots out of a row.
 
-ghost use Rattle.std.specs.Prelude.{◌≡◌, ℕ, ◌+◌, ◌%◌, ◌<◌, ◌≤◌, length, MatchOption, MatchResult, OnOk};
+ghost use Rattle.std.specs.Prelude.{◌≡◌, ℕ, ◌+◌, ◌%◌, ◌<◌, ◌≤◌, length, IsTrue, MatchOption, MatchResult, OnOk};
 ghost use Rattle.integral_index.specs.Integral.{Integral as IntegralValue};
 ghost use Rattle.integral_index.specs.Order.{compare};
 ghost use Rattle.sparse_row.specs.Row.{IsRow, IsPivot, coefficient};
 ghost use Rattle.reduction_core.specs.Laws.{DifferBySpan};
-ghost use Rattle.reduction_core.specs.Steps.{HasPivot, IsStairs, IsPivotAt, IsPlaceFor, ShowsNoneWithin, IsCleared, SameAbove};
+ghost use Rattle.reduction_core.specs.Steps.{HasPivot, IsStairs, IsPivotAt, IsPlaceFor, ShowsNoneWithin, IsCleared, IsAboveAll, SameAbove};
 
 use field_word::Modulus;
 use integral_index::{Integral, Order};
@@ -25,6 +25,18 @@ fn compare_pivot(row: &Row, order: Order, x: &Integral) -> Ordering
     }
 }
 
+// Whether all pivots are less than x. It is asked first, since most look-ups are of such an x: the
+// terms of a row are taken from the greatest down.
+fn is_above_all(rows: &[Row], order: Order, x: &Integral) -> bool
+    requires { (p : ℕ) × IsStairs p order rows.now }
+    ensures { IsTrue result → IsAboveAll order rows.now x.now }
+{
+    match rows.last() {
+        Some(row) => compare_pivot(row, order, x) == Ordering::Less,
+        None => true,
+    }
+}
+
 // The place of the row whose pivot is x, or else the place where such a row belongs.
 pub(crate) fn place_of_pivot(rows: &[Row], order: Order, x: &Integral) -> Result<usize, usize>
     requires stairs { (p : ℕ) × IsStairs p order rows.now }
@@ -32,6 +44,9 @@ pub(crate) fn place_of_pivot(rows: &[Row], order: Order, x: &Integral) -> Result
         (λ place. (place < length rows.now) × IsPivotAt order rows.now place x.now)
         (λ place. IsPlaceFor order rows.now x.now place) }
 {
+    if is_above_all(rows, order, x) {
+        return Err(rows.len());
+    }
     let mut low = 0;
     let mut high = rows.len();
     while low < high {
