@@ -6,3 +6,7 @@ pub mod TallyLemmas
 pub mod MomentumSteps
 pub mod Reading
 pub mod SmallSums
+pub mod ValueLemmas
+pub mod ValueSteps
+pub mod ValueTurns
+pub mod ValueEnds

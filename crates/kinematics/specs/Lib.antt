@@ -4,3 +4,8 @@ pub mod Names
 pub mod Faults
 pub mod Momenta
 pub mod MomentumReader
+pub mod Trees
+pub mod TreeCode
+pub mod Values
+pub mod ValueReader
+pub mod ValueItems

@@ -1,17 +1,21 @@
 //! Names, momenta and expressions of the input, and their values.
 #![tactic(auto)]
 
+mod expressions;
 mod faults;
 mod momenta;
 mod momentum_reader;
 mod names;
 mod numbers;
 mod tokens;
+mod value_reader;
 
+pub use expressions::Expression;
 pub use faults::{TextError, TextFault, TextKind};
 pub use momenta::Momentum;
 pub use momentum_reader::read_momentum;
 pub use names::Name;
+pub use value_reader::read_value;
 
 #[cfg(test)]
 mod tests;
