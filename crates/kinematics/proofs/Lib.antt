@@ -10,3 +10,4 @@ pub mod ValueLemmas
 pub mod ValueSteps
 pub mod ValueTurns
 pub mod ValueEnds
+pub mod EvaluationLemmas

@@ -9,3 +9,5 @@ pub mod TreeCode
 pub mod Values
 pub mod ValueReader
 pub mod ValueItems
+pub mod Evaluation
+pub mod Execution

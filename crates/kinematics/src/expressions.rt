@@ -1,5 +1,8 @@
 //! Expressions over named values.
 
+use crate::evaluation::evaluate;
+use crate::faults::ValueFault;
+use field_word::Modulus;
 use std::marker::Model;
 
 /// One item of an expression in postfix form: a number, the place of a name, or an operation on the
@@ -37,8 +40,9 @@ impl Model for Expression {
 }
 
 impl Expression {
-    ghost use Rattle.std.specs.Prelude.{◌≡◌};
+    ghost use Rattle.std.specs.Prelude.{◌≡◌, ◌<◌, All, IfOk};
     ghost use Rattle.kinematics.specs.Trees.{tree_of, IsProgram};
+    ghost use Rattle.kinematics.specs.Evaluation.{HasOutcome};
 
     /// The expression with these items.
     pub(crate) fn from_items(items: Vec<Item>) -> Expression
@@ -46,5 +50,18 @@ impl Expression {
         ensures { result ≡ tree_of items.items }
     {
         Expression { items }
+    }
+
+    /// Its value modulo p, where the name at each place has the residue at that place. Operations are
+    /// done from left to right, operands first, and the power 0 is 1; it takes no memory.
+    ///
+    /// The fault is that of the first division that fails: `ZeroDivisor` with the offset of its `/` where
+    /// its divisor is 0, `Composite` where its divisor isn't 0 and has no inverse.
+    pub fn value(&self, residues: &[u64], modulus: &Modulus) -> Result<u64, ValueFault>
+        requires { All (λ v. v < modulus.now) residues.now }
+        ensures outcome { HasOutcome modulus.now residues.now self.now result }
+        ensures below { IfOk result (λ v. v < modulus.now) }
+    {
+        evaluate(&self.items, residues, modulus)
     }
 }

@@ -1,5 +1,6 @@
 //! The faults of a text.
 
+use field_word::Composite;
 use out_of_memory::OutOfMemory;
 use std::alloc::{AllocError, AllocFailed};
 use thiserror::Error;
@@ -75,4 +76,15 @@ impl<T: Drop> From<AllocFailed<T>> for TextError {
     fn from(_refused: AllocFailed<T>) -> TextError {
         TextError::OutOfMemory
     }
+}
+
+/// Why an expression has no value: the first division that fails.
+#[derive(Clone, Copy, Debug, PartialEq, Eq, Error)]
+pub enum ValueFault {
+    /// Its divisor is 0; `at` is the offset of its `/`.
+    #[error("division by zero at byte {at}")]
+    ZeroDivisor { at: u32 },
+    /// Its divisor isn't 0 and has no inverse, since the modulus isn't prime.
+    #[error(transparent)]
+    Composite(Composite),
 }

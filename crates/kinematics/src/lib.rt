@@ -1,6 +1,7 @@
 //! Names, momenta and expressions of the input, and their values.
 #![tactic(auto)]
 
+mod evaluation;
 mod expressions;
 mod faults;
 mod momenta;
@@ -11,7 +12,7 @@ mod tokens;
 mod value_reader;
 
 pub use expressions::Expression;
-pub use faults::{TextError, TextFault, TextKind};
+pub use faults::{TextError, TextFault, TextKind, ValueFault};
 pub use momenta::Momentum;
 pub use momentum_reader::read_momentum;
 pub use names::Name;
