@@ -3,7 +3,6 @@ use Rattle.std.proofs.Common.{◌≡◌, ℕ, ◌+◌, ◌%◌, ◌^◌, List, [
 use Rattle.std.specs.Prelude.{fold, slice_index, IsSome}
 use Rattle.std.proofs.lemmas.Option.{none-some}
 use Rattle.std.proofs.lemmas.List.{at_drop_more, drop_more, drop_all}
-use Rattle.kinematics.specs.declared.faults.ValueFault.{ValueFault}
 use Rattle.kinematics.specs.declared.expressions.Item.{Item}
 use Rattle.kinematics.specs.declared.expressions.Item.TheVariants as item
 use Rattle.field_word.specs.Residues.{sum_of, product_of, opposite_of, difference_of}
@@ -23,10 +22,10 @@ one_operand : (p : ℕ) (rs : List ℕ) (t u : Tree) (rest : List Item) (s : Lis
     ((x : ℕ) (q : Outcome) → Runs p rs (i ∷ rest) (x ∷ s) q → Runs p rs rest (f x ∷ s) q) →
     RunsTree p rs t (i ∷ rest) s r → RunsTree p rs u rest s r
 one_operand p rs t u rest s r i f has step h = go h.outcome h.has h.goes
- where
-  go : (a : Outcome) → HasOutcome p rs t a → After a (λ x q. Runs p rs (i ∷ rest) (x ∷ s) q) r → RunsTree p rs u rest s r
-  go (Ok x) a g = record { outcome = Ok (f x); has = has (Ok (f x)) (Ok x, a, refl); goes = step x r g }
-  go (Err e) a g = record { outcome = Err e; has = has (Err e) (Err e, a, refl); goes = g }
+  where
+    go : (a : Outcome) → HasOutcome p rs t a → After a (λ x q. Runs p rs (i ∷ rest) (x ∷ s) q) r → RunsTree p rs u rest s r
+    go (Ok x) a g = record { outcome = Ok (f x); has = has (Ok (f x)) (Ok x, a, refl); goes = step x r g }
+    go (Err e) a g = record { outcome = Err e; has = has (Err e) (Err e, a, refl); goes = g }
 
 -- of a tree with two operands
 two_operands : (p : ℕ) (rs : List ℕ) (t u v : Tree) (rest : List Item) (s : List ℕ) (r : Outcome) (i : Item) (Q : ℕ → ℕ → Outcome → Type 0) →
@@ -35,14 +34,15 @@ two_operands : (p : ℕ) (rs : List ℕ) (t u v : Tree) (rest : List Item) (s : 
     ((x : ℕ) (q : Outcome) → Runs p rs (postfix u ++ i ∷ rest) (x ∷ s) q → RunsTree p rs u (i ∷ rest) (x ∷ s) q) →
     RunsTree p rs t (postfix u ++ i ∷ rest) s r → RunsTree p rs v rest s r
 two_operands p rs t u v rest s r i Q has step second h = go h.outcome h.has h.goes
- where
-  more : (x : ℕ) → HasOutcome p rs t (Ok x) → (b : Outcome) → HasOutcome p rs u b → After b (λ y q. Runs p rs (i ∷ rest) (y ∷ x ∷ s) q) r → RunsTree p rs v rest s r
-  more x a (Ok y) b g =
-      let d = step x y r g in record { outcome = d.0; has = has d.0 (Ok x, a, (Ok y, b, d.1)); goes = d.2 }
-  more x a (Err e) b g = record { outcome = Err e; has = has (Err e) (Ok x, a, (Err e, b, refl)); goes = g }
-  go : (a : Outcome) → HasOutcome p rs t a → After a (λ x q. Runs p rs (postfix u ++ i ∷ rest) (x ∷ s) q) r → RunsTree p rs v rest s r
-  go (Ok x) a g = let k = second x r g in more x a k.outcome k.has k.goes
-  go (Err e) a g = record { outcome = Err e; has = has (Err e) (Err e, a, refl); goes = g }
+  where
+    more : (x : ℕ) → HasOutcome p rs t (Ok x) → (b : Outcome) → HasOutcome p rs u b → After b (λ y q. Runs p rs (i ∷ rest) (y ∷ x ∷ s) q) r → RunsTree p rs v rest s r
+    more x a (Ok y) b g =
+        let d = step x y r g in record { outcome = d.0; has = has d.0 (Ok x, a, (Ok y, b, d.1)); goes = d.2 }
+    more x a (Err e) b g = record { outcome = Err e; has = has (Err e) (Ok x, a, (Err e, b, refl)); goes = g }
+
+    go : (a : Outcome) → HasOutcome p rs t a → After a (λ x q. Runs p rs (postfix u ++ i ∷ rest) (x ∷ s) q) r → RunsTree p rs v rest s r
+    go (Ok x) a g = let k = second x r g in more x a k.outcome k.has k.goes
+    go (Err e) a g = record { outcome = Err e; has = has (Err e) (Err e, a, refl); goes = g }
 
 regroup : (xs ys : List Item) (i : Item) (rest : List Item) → (xs ++ (ys ++ i ∷ [])) ++ rest ≡ xs ++ (ys ++ i ∷ rest)
 regroup xs ys i rest = simp append_assoc
@@ -52,26 +52,26 @@ runs_tree p rs (number n) rest s r h = record { outcome = Ok (n % p); has = refl
 runs_tree p rs (place i) rest s r h = record { outcome = Ok (slice_index rs i); has = refl; goes = h }
 runs_tree p rs (negative t) rest s r h =
     one_operand p rs t (negative t) rest s r item.Negate (λ x. opposite_of p x) (λ o k. k) (λ x q k. k)
-      (runs_tree p rs t (item.Negate ∷ rest) s r (subst (λ is. Runs p rs is s r) (append_assoc (postfix t) (item.Negate ∷ []) rest) h))
+    (runs_tree p rs t (item.Negate ∷ rest) s r (subst (λ is. Runs p rs is s r) (append_assoc (postfix t) (item.Negate ∷ []) rest) h))
 runs_tree p rs (power t n) rest s r h =
     one_operand p rs t (power t n) rest s r (item.Power n) (λ x. x ^ n % p) (λ o k. k) (λ x q k. k)
-      (runs_tree p rs t (item.Power n ∷ rest) s r (subst (λ is. Runs p rs is s r) (append_assoc (postfix t) (item.Power n ∷ []) rest) h))
+    (runs_tree p rs t (item.Power n ∷ rest) s r (subst (λ is. Runs p rs is s r) (append_assoc (postfix t) (item.Power n ∷ []) rest) h))
 runs_tree p rs (sum t u) rest s r h =
     two_operands p rs t u (sum t u) rest s r item.Add (λ x y o. o ≡ Ok (sum_of p x y)) (λ o k. k) (λ x y q k. (Ok (sum_of p x y), refl, k))
-      (λ x q k. runs_tree p rs u (item.Add ∷ rest) (x ∷ s) q k)
-      (runs_tree p rs t (postfix u ++ item.Add ∷ rest) s r (subst (λ is. Runs p rs is s r) (regroup (postfix t) (postfix u) item.Add rest) h))
+    (λ x q k. runs_tree p rs u (item.Add ∷ rest) (x ∷ s) q k)
+    (runs_tree p rs t (postfix u ++ item.Add ∷ rest) s r (subst (λ is. Runs p rs is s r) (regroup (postfix t) (postfix u) item.Add rest) h))
 runs_tree p rs (difference t u) rest s r h =
     two_operands p rs t u (difference t u) rest s r item.Subtract (λ x y o. o ≡ Ok (difference_of p x y)) (λ o k. k) (λ x y q k. (Ok (difference_of p x y), refl, k))
-      (λ x q k. runs_tree p rs u (item.Subtract ∷ rest) (x ∷ s) q k)
-      (runs_tree p rs t (postfix u ++ item.Subtract ∷ rest) s r (subst (λ is. Runs p rs is s r) (regroup (postfix t) (postfix u) item.Subtract rest) h))
+    (λ x q k. runs_tree p rs u (item.Subtract ∷ rest) (x ∷ s) q k)
+    (runs_tree p rs t (postfix u ++ item.Subtract ∷ rest) s r (subst (λ is. Runs p rs is s r) (regroup (postfix t) (postfix u) item.Subtract rest) h))
 runs_tree p rs (product t u) rest s r h =
     two_operands p rs t u (product t u) rest s r item.Multiply (λ x y o. o ≡ Ok (product_of p x y)) (λ o k. k) (λ x y q k. (Ok (product_of p x y), refl, k))
-      (λ x q k. runs_tree p rs u (item.Multiply ∷ rest) (x ∷ s) q k)
-      (runs_tree p rs t (postfix u ++ item.Multiply ∷ rest) s r (subst (λ is. Runs p rs is s r) (regroup (postfix t) (postfix u) item.Multiply rest) h))
+    (λ x q k. runs_tree p rs u (item.Multiply ∷ rest) (x ∷ s) q k)
+    (runs_tree p rs t (postfix u ++ item.Multiply ∷ rest) s r (subst (λ is. Runs p rs is s r) (regroup (postfix t) (postfix u) item.Multiply rest) h))
 runs_tree p rs (quotient at t u) rest s r h =
     two_operands p rs t u (quotient at t u) rest s r (item.Divide at) (λ x y o. IsQuotient p at x y o) (λ o k. k) (λ x y q k. k)
-      (λ x q k. runs_tree p rs u (item.Divide at ∷ rest) (x ∷ s) q k)
-      (runs_tree p rs t (postfix u ++ item.Divide at ∷ rest) s r (subst (λ is. Runs p rs is s r) (regroup (postfix t) (postfix u) (item.Divide at) rest) h))
+    (λ x q k. runs_tree p rs u (item.Divide at ∷ rest) (x ∷ s) q k)
+    (runs_tree p rs t (postfix u ++ item.Divide at ∷ rest) s r (subst (λ is. Runs p rs is s r) (regroup (postfix t) (postfix u) (item.Divide at) rest) h))
 
 -- so the outcome of a program is that of its tree
 pub outcome_of : (p : ℕ) (rs : List ℕ) (items : List Item) (r : Outcome) → IsProgram items → Runs p rs items [] r → HasOutcome p rs (tree_of items) r
@@ -79,10 +79,10 @@ outcome_of p rs items r program h =
     let whole : Runs p rs (postfix (tree_of items) ++ []) [] r = subst (λ is. Runs p rs is [] r) (sym (append-nil (postfix (tree_of items)) ∙ program.whole)) h in
     let d = runs_tree p rs (tree_of items) [] [] r whole in
     same d.outcome d.has d.goes
- where
-  same : (a : Outcome) → HasOutcome p rs (tree_of items) a → After a (λ x q. q ≡ Ok x) r → HasOutcome p rs (tree_of items) r
-  same (Ok x) a g = subst (HasOutcome p rs (tree_of items)) (sym g) a
-  same (Err e) a g = subst (HasOutcome p rs (tree_of items)) (sym g) a
+  where
+    same : (a : Outcome) → HasOutcome p rs (tree_of items) a → After a (λ x q. q ≡ Ok x) r → HasOutcome p rs (tree_of items) r
+    same (Ok x) a g = subst (HasOutcome p rs (tree_of items)) (sym g) a
+    same (Err e) a g = subst (HasOutcome p rs (tree_of items)) (sym g) a
 
 -- a program that went too high or low has no height
 pub none_stays : (items : List Item) → fold then_height None items ≡ None

@@ -11,3 +11,6 @@ pub mod ValueSteps
 pub mod ValueTurns
 pub mod ValueEnds
 pub mod EvaluationLemmas
+pub mod LawLemmas
+pub mod PrintedTokens
+pub mod PrintedMomenta

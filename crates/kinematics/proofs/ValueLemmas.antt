@@ -21,12 +21,12 @@ step_none [] = refl
 step_none (t ∷ ts) = step_none ts
 
 -- where a product ends
-abbrev product_place : SumLead → Product → Place
+abbrev pub product_place : SumLead → Product → Place
 product_place l (one w) = behind (frame l bare) w
 product_place l (times p w) = behind (frame l (by p)) w
 product_place l (over p at w) = behind (frame l (divided p at)) w
 
-abbrev sum_place : Sum → Place
+abbrev pub sum_place : Sum → Place
 sum_place (first p) = product_place empty p
 sum_place (signed s p) = product_place (lone s) p
 sum_place (more m s p) = product_place (after m s) p

@@ -1,6 +1,6 @@
 -- The value of an expression modulo p: operands first, from left to right, up to the first division that
 -- fails. The project's own.
-use Rattle.std.specs.Prelude.{◌≡◌, ◌≢◌, ℕ, ◌+◌, ◌%◌, ◌^◌, Result, Ok, Err, List, slice_index}
+use Rattle.std.specs.Prelude.{◌≡◌, ◌≢◌, ℕ, ◌%◌, ◌^◌, Result, Ok, Err, List, slice_index}
 use Rattle.std.specs.Int.{IsGcd}
 use Rattle.field_word.specs.Residues.{sum_of, product_of, opposite_of, difference_of, IsInverse}
 use Rattle.kinematics.specs.declared.faults.ValueFault.{ValueFault}

@@ -11,3 +11,5 @@ pub mod ValueReader
 pub mod ValueItems
 pub mod Evaluation
 pub mod Execution
+pub mod Laws
+pub mod Printed

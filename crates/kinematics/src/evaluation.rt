@@ -92,19 +92,26 @@ fn residue_at(residues: &[u64], place: u32, modulus: &Modulus) -> u64
     ensures below { result < modulus.now }
 {
     let place = place as usize;
-    if place < residues.len() { residues[place] } else { modulus.reduce(0) }
+    if place < residues.len() {
+        residues[place]
+    } else {
+        modulus.reduce(0)
+    }
 }
 
 /// Runs one item: it takes its operands from the stack and leaves its value there.
-fn run_item(stack: &mut Stack, item: Item, residues: &[u64], modulus: &Modulus) -> Result<(), ValueFault>
+fn run_item(
+    stack: &mut Stack,
+    item: Item,
+    residues: &[u64],
+    modulus: &Modulus,
+) -> Result<(), ValueFault>
     requires fits { IsSome (height_after (length stack.old) item) }
     requires stack { AllByRecursion (λ v. v < modulus.now) stack.old }
     requires residues { All (λ v. v < modulus.now) residues.now }
     ensures height { OnOk result (height_after (length stack.old) item ≡ Some (length stack.new)) }
     ensures below { OnOk result (AllByRecursion (λ v. v < modulus.now) stack.new) }
-    ensures ok {
-        OnOk result ((rest : List Item) (r : Outcome) → Runs modulus.now residues.now rest stack.new r → Runs modulus.now residues.now (item ∷ rest) stack.old r)
-    }
+    ensures ok { OnOk result ((rest : List Item) (r : Outcome) → Runs modulus.now residues.now rest stack.new r → Runs modulus.now residues.now (item ∷ rest) stack.old r) }
     ensures fault { IfErr result (λ e. (rest : List Item) → Runs modulus.now residues.now (item ∷ rest) stack.old (Err e)) }
 {
     match item {

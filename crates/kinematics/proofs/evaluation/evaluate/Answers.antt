@@ -1,4 +1,4 @@
-use Rattle.std.proofs.Common.{arith, Ok, Err}
+use Rattle.std.proofs.Common.{arith}
 use Rattle.std.proofs.lemmas.Result.{err_from_is_err_and}
 use Rattle.kinematics.proofs.EvaluationLemmas.{item_fits, outcome_of, runs_at, runs_at_end}
 use Rattle.kinematics.proofs.evaluation.evaluate.Goals as goal
@@ -11,9 +11,9 @@ pub returns-in_err-run_item-clause-outcome : goal.returns-in_err-run_item-clause
 returns-in_err-run_item-clause-outcome c =
     let e = err_from_is_err_and c.from_residual.result c.from_residual.ensures.1 in
     rw (e.1, e.2) (outcome_of _ _ c.args.items.now _ c.requires.program
-      (c.loop-item.invariant.runs _ (runs_at _ _ c.args.items.now c.loop-item.item-index _ _ _ (omega arith) (c.in_err-run_item.ensures.fault _))))
+    (c.loop-item.invariant.runs _ (runs_at _ _ c.args.items.now c.loop-item.item-index _ _ _ (omega arith) (c.in_err-run_item.ensures.fault _))))
 
 pub returns-clause-outcome : goal.returns-clause-outcome
 returns-clause-outcome c =
     outcome_of _ _ c.args.items.now _ c.requires.program
-      (c.loop-item.invariant.runs _ (runs_at_end _ _ c.args.items.now c.loop-item.item-index _ _ _ (omega arith) c.pop.ensures.value))
+    (c.loop-item.invariant.runs _ (runs_at_end _ _ c.args.items.now c.loop-item.item-index _ _ _ (omega arith) c.pop.ensures.value))
