@@ -1,0 +1,16 @@
+pub mod TokenLemmas
+pub mod NumberLemmas
+pub mod MomentumLemmas
+pub mod NameLemmas
+pub mod TallyLemmas
+pub mod MomentumSteps
+pub mod Reading
+pub mod SmallSums
+pub mod ValueLemmas
+pub mod ValueSteps
+pub mod ValueTurns
+pub mod ValueEnds
+pub mod EvaluationLemmas
+pub mod LawLemmas
+pub mod PrintedTokens
+pub mod PrintedMomenta

@@ -1,0 +1,19 @@
+use Rattle.std.proofs.Common.{◌≤◌, ◌-◌, List, length}
+use Rattle.kinematics.specs.declared.faults.TextKind.TheVariants.{BadMomentum}
+use Rattle.kinematics.specs.Tokens.{Token, tokens_of}
+use Rattle.kinematics.specs.Momenta.{IsMomentumText, momentum_blame}
+use Rattle.kinematics.specs.MomentumReader.{HasRead, rest_from}
+use Rattle.kinematics.proofs.Reading.{HasCome}
+use Rattle.kinematics.proofs.momentum_reader.read_terms.Given as goal
+
+abbrev pub invariant-loop-piece : goal.invariant-loop-piece
+invariant-loop-piece l = record {
+  within : l.from ≤ length l.bytes;
+  before : List Token;
+  short : length before ≤ l.from;
+  come : HasCome IsMomentumText (momentum_blame l.names) BadMomentum (length l.bytes) (tokens_of l.bytes) before (rest_from l.bytes l.from);
+  read : HasRead l.names before l.progress l.tallies;
+}
+
+abbrev pub decreases-loop-piece : goal.decreases-loop-piece
+decreases-loop-piece l = length l.bytes - l.from

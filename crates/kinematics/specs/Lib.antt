@@ -1,0 +1,15 @@
+pub mod Tokens
+pub mod Pieces
+pub mod Names
+pub mod Faults
+pub mod Momenta
+pub mod MomentumReader
+pub mod Trees
+pub mod TreeCode
+pub mod Values
+pub mod ValueReader
+pub mod ValueItems
+pub mod Evaluation
+pub mod Execution
+pub mod Laws
+pub mod Printed

@@ -1,0 +1,21 @@
+//! Laws of the readings of texts.
+
+ghost use Rattle.kinematics.specs.Printed.{PrintedReadsBack};
+ghost use Rattle.kinematics.specs.Laws.{ReadsAsOneValue, ReadsAsOneMomentum, HasOneValueFault, HasOneMomentumFault, ValueHasNoFault, MomentumHasNoFault};
+
+/// A text has at most one reading as a value and at most one as a momentum, or at most one first fault,
+/// and never both. It does nothing when it runs.
+pub fn readings_are_unique()
+    ensures value { ReadsAsOneValue }
+    ensures momentum { ReadsAsOneMomentum }
+    ensures value_fault { HasOneValueFault }
+    ensures momentum_fault { HasOneMomentumFault }
+    ensures value_or_fault { ValueHasNoFault }
+    ensures momentum_or_fault { MomentumHasNoFault }
+{}
+
+/// A momentum over distinct names, of which there is at least one, reads back as itself from the text
+/// that `printed` gives, as `+2*k1-1*k2`. It does nothing when it runs.
+pub fn printed_momentum_reads_back()
+    ensures { PrintedReadsBack }
+{}
