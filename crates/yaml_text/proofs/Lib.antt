@@ -5,3 +5,6 @@ pub mod FlowSteps
 pub mod KeySteps
 pub mod Turns
 pub mod BlockSteps
+pub mod Settled
+pub mod OneWord
+pub mod Grammar

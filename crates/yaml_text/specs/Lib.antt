@@ -11,3 +11,4 @@ pub mod Flow
 pub mod Nests
 pub mod Blocks
 pub mod NestsBlock
+pub mod Laws

@@ -111,6 +111,11 @@ impl From<OutOfMemory> for YamlError {
 }
 
 impl fmt::Display for YamlKind {
+    ghost use Rattle.std.specs.Prelude.{Some};
+    ghost use Rattle.yaml_text.specs.Kinds.{text_of};
+
+    ghost output = { λ kind. Some (text_of kind) };
+
     fn fmt<W: fmt::Write>(&self, f: &mut fmt::Formatter<W>) -> fmt::Result {
         f.write_str(self.text())
     }

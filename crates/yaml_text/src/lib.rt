@@ -5,6 +5,7 @@ mod block;
 mod fault;
 mod flow;
 mod keys;
+mod laws;
 mod line;
 mod reader;
 #[cfg(test)]
@@ -14,6 +15,7 @@ mod token;
 mod tree;
 
 pub use fault::{YamlError, YamlFault, YamlKind};
+pub use laws::{one_grammar, one_reading, word_is_scalar};
 pub use reader::read;
 pub use text::Text;
 pub use tree::{Pair, Tree, Value};
