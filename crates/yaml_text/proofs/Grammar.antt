@@ -1,8 +1,7 @@
 -- What is read as a value with nothing behind it is a value as a whole.
-use Rattle.std.proofs.Common.{◌≡◌, ℕ, suc, zero, ◌+◌, ◌-◌, ◌<◌, ◌≤◌, Bool, true, false, cond, eqb, List, [], ◌∷◌, ◌++◌, length, take, drop, Option, Some, None, Result, Ok, Err, refl, ap, sym, ◌∙◌, arith}
+use Rattle.std.proofs.Common.{◌≡◌, ℕ, suc, zero, ◌+◌, ◌≤◌, Bool, true, false, cond, eqb, List, [], ◌∷◌, ◌++◌, length, take, drop, Option, Some, None, Result, Ok, Err, refl, ap, sym, ◌∙◌, arith}
 use Rattle.std.proofs.lemmas.Bool.{true≢false}
 use Rattle.std.proofs.lemmas.List.{length-drop, append_assoc}
-use Rattle.yaml_text.specs.declared.fault.YamlError.{YamlError}
 use Rattle.yaml_text.specs.declared.fault.YamlKind.TheVariants as kind
 use Rattle.yaml_text.specs.declared.flow.Goal.{Goal}
 use Rattle.yaml_text.specs.declared.flow.Goal.TheVariants.{Value, ItemOrEnd, NextItem, PairOrEnd, Pair, NextPair}
@@ -14,7 +13,7 @@ use Rattle.yaml_text.specs.Outcomes.{Outcome, refuse, ◌>>=◌}
 use Rattle.yaml_text.specs.Lines.{Bytes, is_empty, skip, begins, spaces, trim_end}
 use Rattle.yaml_text.specs.Words.{Words, is_colon, plain_length, quoted_length, is_whole}
 use Rattle.yaml_text.specs.Tokens.{named, plain, quoted, piece, token, behind}
-use Rattle.yaml_text.specs.Flow.{for_value, and_then, step, if_some, fits, is_flow, Parser, behind_item, behind_pair, items_from, items_by, items, key, new_key, pair_at, pairs_from, pairs_by, pairs, value_by, value, scalar, list_at, map_at}
+use Rattle.yaml_text.specs.Flow.{for_value, and_then, step, if_some, fits, is_flow, Parser, behind_item, behind_pair, items_from, items_by, items, key, pair_at, pairs_from, pairs_by, pairs, value_by, value, scalar, list_at, map_at}
 
 -- ---- each piece has a byte
 
@@ -35,8 +34,8 @@ named_short w after n h =
 quoted_short : (bs : Bytes) → length (quoted bs).1 ≤ length bs
 quoted_short bs =
     cond_short (begins 34 (drop (quoted_length bs) bs)) _ _ (length bs)
-      (named_short _ (skip (drop (quoted_length bs + 1) bs)) (length bs) (omega (arith, skip_short (drop (quoted_length bs + 1) bs), drop_short (quoted_length bs + 1) bs)))
-      (omega arith)
+    (named_short _ (skip (drop (quoted_length bs + 1) bs)) (length bs) (omega (arith, skip_short (drop (quoted_length bs + 1) bs), drop_short (quoted_length bs + 1) bs)))
+    (omega arith)
 
 -- words with a byte have a byte of the text
 whole_some : (n : ℕ) (text : Bytes) → is_whole (trim_end (take n text)) ≡ true → 1 ≤ n
@@ -160,7 +159,7 @@ module _ (line : ℕ) (inner : Parser Tree)
       let one = first_ok (inner text) _ (all, rest) h in
       reads (NextItem ∷ gs) text one.0.1 one.0.0 one.1
       ∙ after_item n (found ++ one.0.0 ∷ []) all gs one.0.1 rest (token one.0.1) refl
-          (λ fin k. items_from_fit n (found ++ one.0.0 ∷ []) fin gs (behind one.0.1) rest k) one.2
+      (λ fin k. items_from_fit n (found ++ one.0.0 ∷ []) fin gs (behind one.0.1) rest k) one.2
 
   open_items : (t : Token) (gs : List Goal) (text : Bytes) → token text ≡ t → step ItemOrEnd t ≡ and_then (for_value t) NextItem
       → fit (ItemOrEnd ∷ gs) text ≡ fit (Value ∷ NextItem ∷ gs) text
@@ -219,9 +218,9 @@ module _ (line : ℕ) (inner : Parser Tree)
       let one = first_ok (inner (behind text)) _ (all, rest) named.2 in
       let word = key_there seen (token text) named.0 named.1 in
       let goes : fit (Value ∷ NextPair ∷ gs) (behind text) ≡ fit gs rest =
-        reads (NextPair ∷ gs) (behind text) one.0.1 one.0.0 one.1
-        ∙ after_pair n (seen ++ named.0.text ∷ []) (found ++ pair_at line named.0.text one.0.0 ∷ []) all gs one.0.1 rest (token one.0.1) refl
-            (λ fin k. (pairs_from_fit n (seen ++ named.0.text ∷ []) (found ++ pair_at line named.0.text one.0.0 ∷ []) fin gs (behind one.0.1) rest k).0) one.2 in
+      reads (NextPair ∷ gs) (behind text) one.0.1 one.0.0 one.1
+      ∙ after_pair n (seen ++ named.0.text ∷ []) (found ++ pair_at line named.0.text one.0.0 ∷ []) all gs one.0.1 rest (token one.0.1) refl
+      (λ fin k. (pairs_from_fit n (seen ++ named.0.text ∷ []) (found ++ pair_at line named.0.text one.0.0 ∷ []) fin gs (behind one.0.1) rest k).0) one.2 in
       (fit_at Pair gs text (Key word.0) word.1 ∙ goes, fit_at PairOrEnd gs text (Key word.0) word.1 ∙ goes)
 
   pairs_by_fit : (t : Token) (all : List p.Pair) (gs : List Goal) (text rest : Bytes) → token text ≡ t → pairs_by line inner t text ≡ Ok (all, rest)
@@ -269,8 +268,8 @@ value_fit line zero gs text rest tree h =
     by_fit line (λ r. refuse line kind.TooDeep) (λ r. refuse line kind.TooDeep) (token text) gs text rest tree refl (λ all k. Err_wrong (all, rest) _ k) (λ all k. Err_wrong (all, rest) _ k) h
 value_fit line (suc depth) gs text rest tree h =
     by_fit line (items line (value line depth)) (pairs line (value line depth)) (token text) gs text rest tree refl
-      (λ all k. items_fit line (value line depth) (value_fit line depth) all gs (behind text) rest k)
-      (λ all k. pairs_fit line (value line depth) (value_fit line depth) all gs (behind text) rest k) h
+    (λ all k. items_fit line (value line depth) (value_fit line depth) all gs (behind text) rest k)
+    (λ all k. pairs_fit line (value line depth) (value_fit line depth) all gs (behind text) rest k) h
 
 fits_nothing : (n : ℕ) (text : Bytes) → fits n [] text ≡ is_empty text
 unfolding fits

@@ -1,5 +1,5 @@
 -- One line more, at the definition of all lines.
-use Rattle.std.proofs.Common.{◌≡◌, ℕ, ◌+◌, length, [], ◌∷◌, List, Ok, Err, refl, ap, sym, ◌∙◌, arith}
+use Rattle.std.proofs.Common.{◌≡◌, ℕ, ◌+◌, length, [], ◌∷◌, List, Ok, Err, refl, ap, ◌∙◌, arith}
 use Rattle.yaml_text.specs.declared.fault.YamlError.{YamlError}
 use Rattle.yaml_text.specs.Outcomes.{Outcome}
 use Rattle.yaml_text.specs.Lines.{Bytes, Line, bare, fault_of, kept, judged, cut, lines_from, lines}

@@ -1,17 +1,16 @@
 -- A text without a special byte is one scalar.
-use Rattle.std.proofs.Common.{◌≡◌, ℕ, suc, zero, ◌+◌, ◌-◌, ◌<◌, ◌≤◌, Bool, true, false, not, ◌&&◌, ◌||◌, cond, eqb, ltb, List, [], ◌∷◌, ◌++◌, length, take, drop, Option, Some, None, Ok, refl, ap, sym, ◌∙◌, arith}
-use Rattle.std.specs.List.{list_any, list_all, prefix_len}
+use Rattle.std.proofs.Common.{◌≡◌, ℕ, suc, zero, Bool, true, false, not, ◌&&◌, ◌||◌, eqb, ltb, [], ◌∷◌, length, None, Ok, refl, ap, sym, ◌∙◌, arith}
+use Rattle.std.specs.List.{list_any, list_all}
 use Rattle.std.specs.Prelude.{count_by}
 use Rattle.std.proofs.lemmas.Bool.{true≢false}
 use Rattle.std.proofs.lemmas.Bool.Decides.{nat_tests}
 use Rattle.std.proofs.lemmas.List.{take_all, drop_all}
 use Rattle.yaml_text.specs.declared.token.Token.TheVariants.{Scalar}
-use Rattle.yaml_text.specs.Outcomes.{Outcome}
-use Rattle.yaml_text.specs.Lines.{Bytes, Line, is_empty, begins, cut, onto_first, before_comment, trim_end, bare, line_length, has_tab, has_other, has_escape, has_open_quote, has_quote, is_mark, fault_of, judged, kept, line_at, lines_from, lines}
-use Rattle.yaml_text.specs.Words.{is_special, is_colon, stops_plain, plain_length, is_whole}
+use Rattle.yaml_text.specs.Lines.{Bytes, before_comment, trim_end, bare, line_length, has_tab, has_other, has_escape, has_quote, is_mark, fault_of, kept, line_at, lines_from, lines}
+use Rattle.yaml_text.specs.Words.{plain_length, is_whole}
 use Rattle.yaml_text.specs.Tokens.{piece, plain, token, behind, is_indicator, scalar_fault}
-use Rattle.yaml_text.specs.Flow.{scalar_at, scalar, fits, is_flow, value, value_by, flow}
-use Rattle.yaml_text.specs.Blocks.{is_dash, is_key, single, block, max_depth, reading}
+use Rattle.yaml_text.specs.Flow.{scalar_at, scalar, fits, is_flow, value, flow}
+use Rattle.yaml_text.specs.Blocks.{single, block, reading}
 use Rattle.yaml_text.specs.Laws.{special_bytes, is_ordinary, is_word}
 use Rattle.yaml_text.proofs.Cutting.{cut_last}
 
@@ -93,7 +92,11 @@ ordinary b h =
     let s20 = or_right (eqb b 124) (list_any (λ s. eqb b s) (125 ∷ [])) s19 in
     let s21 = or_right (eqb b 125) (list_any (λ s. eqb b s) ([])) s20 in
     record {
-      tab = grind (arith, nat_tests); lf = grind (arith, nat_tests); space = grind (arith, nat_tests); low = grind (arith, nat_tests); high = above;
+      tab = grind (arith, nat_tests);
+      lf = grind (arith, nat_tests);
+      space = grind (arith, nat_tests);
+      low = grind (arith, nat_tests);
+      high = above;
       mark = or_left (eqb b 33) _ s0;
       quote = or_left (eqb b 34) _ s1;
       hash = or_left (eqb b 35) _ s2;

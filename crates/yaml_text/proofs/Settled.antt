@@ -1,5 +1,5 @@
 -- The definitions answer a value or a fault.
-use Rattle.std.proofs.Common.{ℕ, suc, zero, ◌+◌, Bool, true, false, cond, eqb, List, [], ◌∷◌, ◌++◌, take, Option, Some, None, Result, Ok, Err}
+use Rattle.std.proofs.Common.{ℕ, suc, zero, ◌+◌, Bool, true, false, cond, eqb, List, [], ◌∷◌, ◌++◌, take, Option, Some, None, Ok, Err}
 use Rattle.yaml_text.specs.declared.fault.YamlError.TheVariants.{Fault, OutOfMemory}
 use Rattle.yaml_text.specs.declared.fault.YamlKind.{YamlKind}
 use Rattle.yaml_text.specs.declared.fault.YamlKind.TheVariants as kind
@@ -36,7 +36,7 @@ unfolding lines_from
 lines_from_settled n found [] = tt
 lines_from_settled n found (raw ∷ raws) =
     then_settled (judged n (fault_of (bare raw)) (kept n (bare raw) found)) _ (judged_settled n (fault_of (bare raw)) (kept n (bare raw) found))
-      (λ more. lines_from_settled (n + 1) more raws)
+    (λ more. lines_from_settled (n + 1) more raws)
 
 lines_settled : (bytes : Bytes) → IsSettled (lines bytes)
 unfolding lines
@@ -54,7 +54,7 @@ scalar_settled line w = unless_settled line (scalar_fault w) (Ok (f.scalar_at li
 
 new_key_settled : (line : ℕ) (seen : List Bytes) (w : Words) → IsSettled (f.new_key line seen w)
 unfolding f.new_key
-new_key_settled line seen w = 
+new_key_settled line seen w =
     let twice : Outcome (Unit {0}) = refuse line kind.DuplicateKey in
     let fine : Outcome (Unit {0}) = Ok tt in
     unless_settled line (key_fault w) (cond (has_key w.text seen) twice fine) (cond_settled (has_key w.text seen) twice fine tt tt)
@@ -115,8 +115,8 @@ module _ (line : ℕ) (inner : f.Parser Tree) (settled : (text : Bytes) → IsSe
   pairs_from_settled zero seen found text = tt
   pairs_from_settled (suc n) seen found text =
       then_settled (f.key line kind.Flow seen (token text)) _ (key_settled line kind.Flow seen (token text)) (λ k.
-        then_settled (inner (behind text)) _ (settled (behind text)) (λ x.
-          pair_settled line (token x.1) _ _ (pairs_from_settled n (seen ++ k.text ∷ []) (found ++ f.pair_at line k.text x.0 ∷ []) (behind x.1)) tt))
+      then_settled (inner (behind text)) _ (settled (behind text)) (λ x.
+      pair_settled line (token x.1) _ _ (pairs_from_settled n (seen ++ k.text ∷ []) (found ++ f.pair_at line k.text x.0 ∷ []) (behind x.1)) tt))
 
   pairs_by_settled : (t : Token) (text : Bytes) → IsSettled (f.pairs_by line inner t text)
   pairs_by_settled OpenList text = pairs_from_settled _ [] [] text
@@ -148,8 +148,8 @@ unfolding f.value
 value_settled line zero text = by_settled line (λ r. refuse line kind.TooDeep) (λ r. refuse line kind.TooDeep) (token text) (behind text) tt tt
 value_settled line (suc depth) text =
     by_settled line (f.items line (f.value line depth)) (f.pairs line (f.value line depth)) (token text) (behind text)
-      (items_settled line (f.value line depth) (value_settled line depth) (behind text))
-      (pairs_settled line (f.value line depth) (value_settled line depth) (behind text))
+    (items_settled line (f.value line depth) (value_settled line depth) (behind text))
+    (pairs_settled line (f.value line depth) (value_settled line depth) (behind text))
 
 flow_settled : (line depth : ℕ) (text : Bytes) → IsSettled (f.flow line depth text)
 unfolding f.flow
@@ -158,7 +158,7 @@ flow_settled line depth text =
     let none : Outcome Tree = refuse line kind.Flow in
     let read : Outcome Tree = f.value line depth text >>= (λ p. Ok p.0) in
     cond_settled (is_indicator text) sign (cond (f.is_flow text) read none) tt
-      (cond_settled (f.is_flow text) read none (then_settled (f.value line depth text) _ (value_settled line depth text) (λ _. tt)) tt)
+    (cond_settled (f.is_flow text) read none (then_settled (f.value line depth text) _ (value_settled line depth text) (λ _. tt)) tt)
 
 -- ---- blocks
 
@@ -182,8 +182,8 @@ module _ (inner : List Line → Outcome Tree) (settled : (ls : List Line) → Is
       let read : Outcome (List Tree) = b.inside inner l.number taken >>= (λ item. b.items inner indent (b.deep indent ls) (found ++ item ∷ []) ls) in
       let wrong : Outcome (List Tree) = refuse l.number kind.Indent in
       cond_settled (b.is_item indent l) read wrong
-        (then_settled (b.inside inner l.number taken) _ (inside_settled l.number taken) (λ item. list_settled indent (b.deep indent ls) (found ++ item ∷ []) ls))
-        tt
+      (then_settled (b.inside inner l.number taken) _ (inside_settled l.number taken) (λ item. list_settled indent (b.deep indent ls) (found ++ item ∷ []) ls))
+      tt
 
   below_settled : (depth n : ℕ) (rest : Bytes) (ls : List Line) → IsSettled (b.value inner depth n rest ls)
   unfolding b.value
@@ -197,14 +197,14 @@ module _ (inner : List Line → Outcome Tree) (settled : (ls : List Line) → Is
   map_settled depth indent zero seen found (l ∷ ls) =
       let n = b.value_lines indent (behind l.text) ls in
       let go : Words → Outcome (List Pair) = λ k. b.value inner depth l.number (behind l.text) (take n ls) >>= (λ v.
-        b.pairs inner depth indent n (seen ++ k.text ∷ []) (found ++ f.pair_at l.number k.text v ∷ []) ls) in
+      b.pairs inner depth indent n (seen ++ k.text ∷ []) (found ++ f.pair_at l.number k.text v ∷ []) ls) in
       let read : Outcome (List Pair) = f.key l.number kind.NoColon seen (token l.text) >>= go in
       let wrong : Outcome (List Pair) = refuse l.number kind.Indent in
       cond_settled (eqb l.indent indent) read wrong
-        (then_settled (f.key l.number kind.NoColon seen (token l.text)) go (key_settled l.number kind.NoColon seen (token l.text)) (λ k.
-          then_settled (b.value inner depth l.number (behind l.text) (take n ls)) _ (below_settled depth l.number (behind l.text) (take n ls))
-            (λ v. map_settled depth indent n (seen ++ k.text ∷ []) (found ++ f.pair_at l.number k.text v ∷ []) ls)))
-        tt
+      (then_settled (f.key l.number kind.NoColon seen (token l.text)) go (key_settled l.number kind.NoColon seen (token l.text)) (λ k.
+      then_settled (b.value inner depth l.number (behind l.text) (take n ls)) _ (below_settled depth l.number (behind l.text) (take n ls))
+      (λ v. map_settled depth indent n (seen ++ k.text ∷ []) (found ++ f.pair_at l.number k.text v ∷ []) ls)))
+      tt
 
 block_settled : (depth : ℕ) (ls : List Line) → IsSettled (b.block depth ls)
 unfolding b.block
@@ -218,10 +218,10 @@ block_settled (suc depth) (l ∷ ls) =
     let mapped : Outcome Tree = b.pairs (b.block depth) depth l.indent 0 [] [] (l ∷ ls) >>= (λ found. Ok (f.map_at l.number found)) in
     let alone : Outcome Tree = b.single (suc depth) l ls in
     cond_settled (b.is_dash l.text) listed (cond (b.is_key (token l.text)) mapped alone)
-      (then_settled (b.items (b.block depth) l.indent 0 [] (l ∷ ls)) _ (list_settled (b.block depth) (block_settled depth) l.indent 0 [] (l ∷ ls)) (λ _. tt))
-      (cond_settled (b.is_key (token l.text)) mapped alone
-        (then_settled (b.pairs (b.block depth) depth l.indent 0 [] [] (l ∷ ls)) _ (map_settled (b.block depth) (block_settled depth) depth l.indent 0 [] [] (l ∷ ls)) (λ _. tt))
-        (single_settled (suc depth) l ls))
+    (then_settled (b.items (b.block depth) l.indent 0 [] (l ∷ ls)) _ (list_settled (b.block depth) (block_settled depth) l.indent 0 [] (l ∷ ls)) (λ _. tt))
+    (cond_settled (b.is_key (token l.text)) mapped alone
+    (then_settled (b.pairs (b.block depth) depth l.indent 0 [] [] (l ∷ ls)) _ (map_settled (b.block depth) (block_settled depth) depth l.indent 0 [] [] (l ∷ ls)) (λ _. tt))
+    (single_settled (suc depth) l ls))
 
 pub reading_settled : (bytes : Bytes) → IsSettled (b.reading bytes)
 unfolding b.reading

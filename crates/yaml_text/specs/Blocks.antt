@@ -1,5 +1,5 @@
 -- Blocks of lines: lists by dashes, maps by keys, and single values. The project's own profile of YAML 1.2.
-use Rattle.std.specs.Prelude.{ℕ, zero, suc, ◌+◌, ◌-◌, Bool, true, false, ◌&&◌, ◌||◌, if◌then◌else◌, ◌==◌, nat_lt, List, [], ◌∷◌, ◌++◌, length, take, drop, Ok, Err}
+use Rattle.std.specs.Prelude.{ℕ, zero, suc, ◌+◌, ◌-◌, Bool, true, false, ◌&&◌, ◌||◌, if◌then◌else◌, ◌==◌, nat_lt, List, [], ◌∷◌, ◌++◌, length, take, drop, Ok}
 use Rattle.std.specs.List.{prefix_len}
 use Rattle.yaml_text.specs.declared.fault.YamlKind.TheVariants as kind
 use Rattle.yaml_text.specs.declared.token.Token.{Token}
@@ -7,7 +7,7 @@ use Rattle.yaml_text.specs.declared.token.Token.TheVariants.{Key}
 use Rattle.yaml_text.specs.declared.tree.Tree.{Tree}
 use Rattle.yaml_text.specs.declared.tree.Pair.{Pair}
 use Rattle.yaml_text.specs.Outcomes.{Outcome, refuse, ◌>>=◌}
-use Rattle.yaml_text.specs.Lines.{Bytes, Line, is_empty, begins, skip, lines}
+use Rattle.yaml_text.specs.Lines.{Bytes, Line, is_empty, skip, lines}
 use Rattle.yaml_text.specs.Words.{ends_here}
 use Rattle.yaml_text.specs.Tokens.{token, behind}
 use Rattle.yaml_text.specs.Flow.{empty_at, list_at, map_at, pair_at, key, flow}

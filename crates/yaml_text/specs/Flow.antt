@@ -1,10 +1,10 @@
 -- Values on one line: `[..]`, `{..}`, and scalars with or without quotes. The project's own profile of
 -- YAML 1.2. Each reader answers what it read and the text behind it.
-use Rattle.std.specs.Prelude.{◌≡◌, ◌≢◌, ℕ, zero, suc, Bool, true, false, not, if◌then◌else◌, List, [], ◌∷◌, ◌++◌, length, reverse, Option, Some, None, MatchOption, Result, Ok, Err}
+use Rattle.std.specs.Prelude.{◌≡◌, ◌≢◌, ℕ, zero, suc, Bool, true, false, if◌then◌else◌, List, [], ◌∷◌, ◌++◌, length, reverse, Option, Some, None, MatchOption, Result, Ok, Err}
 use Rattle.yaml_text.specs.declared.fault.YamlKind.{YamlKind}
 use Rattle.yaml_text.specs.declared.fault.YamlKind.TheVariants as kind
 use Rattle.yaml_text.specs.declared.token.Token.{Token}
-use Rattle.yaml_text.specs.declared.token.Token.TheVariants.{OpenList, CloseList, OpenMap, CloseMap, Comma, Key, Scalar, Bad}
+use Rattle.yaml_text.specs.declared.token.Token.TheVariants.{OpenList, CloseList, OpenMap, CloseMap, Comma, Key, Scalar}
 use Rattle.yaml_text.specs.declared.fault.YamlError.{YamlError}
 use Rattle.yaml_text.specs.declared.fault.YamlError.TheVariants.{OutOfMemory}
 use Rattle.yaml_text.specs.declared.flow.Goal.{Goal}

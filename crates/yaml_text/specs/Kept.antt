@@ -1,5 +1,5 @@
 -- What contracts see of the types that keep a part of the text, and what these always meet.
-use Rattle.std.specs.Prelude.{◌≡◌, ◌<◌, ◌+◌, ◌^◌, length}
+use Rattle.std.specs.Prelude.{◌<◌, ◌+◌, ◌^◌, length}
 use Rattle.std.specs.Str.{IsAscii}
 use Rattle.yaml_text.specs.declared.line.Line.TheInside.{Inside}
 use Rattle.yaml_text.specs.Lines.{Line}

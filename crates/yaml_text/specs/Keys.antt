@@ -1,5 +1,5 @@
 -- The keys of a map, as a set.
-use Rattle.std.specs.Prelude.{◌≡◌, ℕ, List, map}
+use Rattle.std.specs.Prelude.{List, map}
 use Rattle.yaml_text.specs.declared.keys.Keys.TheInside.{Inside}
 use Rattle.yaml_text.specs.Lines.{Bytes}
 

@@ -1,5 +1,5 @@
 -- What laws say of readings.
-use Rattle.std.specs.Prelude.{ℕ, Bool, false, not, ◌&&◌, ◌||◌, ◌==◌, nat_lt, List, [], ◌∷◌, Ok, Err}
+use Rattle.std.specs.Prelude.{ℕ, Bool, not, ◌&&◌, ◌||◌, ◌==◌, nat_lt, List, [], ◌∷◌, Ok, Err}
 use Rattle.std.specs.List.{list_any, list_all}
 use Rattle.yaml_text.specs.declared.fault.YamlError.TheVariants.{Fault, OutOfMemory}
 use Rattle.yaml_text.specs.Outcomes.{Outcome}

@@ -1,7 +1,6 @@
 -- What a definition of the profile answers: a value, or the first fault.
 use Rattle.std.specs.Prelude.{◌≡◌, ◌≢◌, ℕ, Result, Ok, Err}
 use Rattle.yaml_text.specs.declared.fault.YamlKind.{YamlKind}
-use Rattle.yaml_text.specs.declared.fault.YamlFault.{YamlFault}
 use Rattle.yaml_text.specs.declared.fault.YamlError.{YamlError}
 use Rattle.yaml_text.specs.declared.fault.YamlError.TheVariants.{Fault, OutOfMemory}
 

@@ -1,5 +1,5 @@
 -- The next piece of a text, and what stands behind it.
-use Rattle.std.specs.Prelude.{ℕ, ◌+◌, Bool, true, false, ◌&&◌, ◌||◌, if◌then◌else◌, ◌==◌, List, [], ◌∷◌, take, drop, Option, Some, None, codes}
+use Rattle.std.specs.Prelude.{ℕ, ◌+◌, Bool, true, false, ◌&&◌, ◌||◌, if◌then◌else◌, ◌==◌, [], ◌∷◌, take, drop, Option, Some, None, codes}
 use Rattle.std.specs.Str.{bytes_eq}
 use Rattle.yaml_text.specs.declared.fault.YamlKind.{YamlKind}
 use Rattle.yaml_text.specs.declared.fault.YamlKind.TheVariants.{Merge, Indicator, BlockScalar}

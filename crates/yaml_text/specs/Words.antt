@@ -1,11 +1,10 @@
 -- The pieces of a text on one line: marks, keys and scalars. The project's own profile of YAML 1.2.
 -- 33 `!`, 34 a double quote, 37 `%`, 38 `&`, 42 `*`, 44 a comma, 45 `-`, 58 a colon, 60 `<`, 62 `>`,
 -- 63 `?`, 64 `@`, 91 `[`, 93 `]`, 96 a back quote, 123 `{`, 124 a vertical bar, 125 `}`.
-use Rattle.std.specs.Prelude.{ℕ, suc, ◌+◌, Bool, true, false, not, ◌&&◌, ◌||◌, if◌then◌else◌, ◌==◌, List, [], ◌∷◌, take, drop, Option, Some, None, codes, refl}
+use Rattle.std.specs.Prelude.{ℕ, suc, Bool, true, false, not, ◌&&◌, ◌||◌, if◌then◌else◌, ◌==◌, [], ◌∷◌, refl}
 use Rattle.std.specs.List.{prefix_len}
-use Rattle.std.specs.Str.{bytes_eq}
 use Rattle.std.specs.Coded.{Coded, code_by, coded×, coded_ℕ, coded_list, coded_bool}
-use Rattle.yaml_text.specs.Lines.{Bytes, is_empty, begins, skip, trim_end}
+use Rattle.yaml_text.specs.Lines.{Bytes}
 
 -- the text of a key or a scalar, and whether it stands there without quotes
 pub record Words : Type 0 where

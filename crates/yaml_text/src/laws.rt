@@ -11,19 +11,16 @@ ghost use Rattle.yaml_text.specs.declared.tree.Tree.{Tree};
 pub fn one_reading()
     ensures one_tree { (bytes : List ℕ) (tree other : Tree) → reading bytes ≡ Ok tree → reading bytes ≡ Ok other → tree ≡ other }
     ensures tree_or_fault { (bytes : List ℕ) → IsSettled (reading bytes) }
-{
-}
+{}
 
 /// A text without a byte that means something to the profile is one scalar, its own text on line 1.
 pub fn word_is_scalar()
     ensures { (bytes : List ℕ) → is_word bytes ≡ true → reading bytes ≡ Ok (scalar_at 1 bytes) }
-{
-}
+{}
 
 /// The grammar stands twice in the definitions: once to say whether a text is a value as a whole, and
 /// once to read it. Where a value is read from the front of a text, the text is a value as a whole
 /// exactly if nothing is left behind it.
 pub fn one_grammar()
     ensures { (line depth : ℕ) (text rest : List ℕ) (tree : Tree) → value line depth text ≡ Ok (tree, rest) → is_flow text ≡ is_empty rest }
-{
-}
+{}

@@ -113,7 +113,7 @@ const LINES: [Refused; 19] = [
     },
 ];
 
-const STRUCTURE: [Refused; 38] = [
+const STRUCTURE: [Refused; 40] = [
     Refused {
         text: "<<: a",
         line: 1,
@@ -228,6 +228,17 @@ const STRUCTURE: [Refused; 38] = [
     // a line at a wrong indentation that also holds a bad key
     Refused {
         text: "a: 1\n  &b: 2",
+        line: 2,
+        kind: YamlKind::Indent,
+    },
+    // a line at a wrong indentation that also lacks a colon, or has a key for the second time
+    Refused {
+        text: "a: 1\n  b",
+        line: 2,
+        kind: YamlKind::Indent,
+    },
+    Refused {
+        text: "a: 1\n  a: 2",
         line: 2,
         kind: YamlKind::Indent,
     },

@@ -1,6 +1,5 @@
-use Rattle.std.proofs.Common.{rules, arith, sym, ◌∙◌, ap, Ok, ◌-◌, ◌+◌, ◌++◌, ◌∷◌, [], length}
+use Rattle.std.proofs.Common.{arith, sym, ◌∙◌, ap, Ok, ◌-◌, ◌+◌, ◌++◌, ◌∷◌, [], length}
 use Rattle.yaml_text.specs.declared.flow.Goal.TheVariants.{Value}
-use Rattle.yaml_text.specs.Flow.{step, Meets}
 use Rattle.std.proofs.lemmas.Bool.{true≢false}
 use Rattle.yaml_text.proofs.FlowSteps.{flow_begins, flow_done, flow_wrong, flow_more, flow_stops}
 use Rattle.yaml_text.proofs.flow.is_flow.Goals as goal

@@ -1,5 +1,4 @@
 use Rattle.std.proofs.Common.{rules, arith}
-use Rattle.std.proofs.lemmas.Grind.{common_steps}
 use Rattle.yaml_text.proofs.Cutting.{comment_here, comment_later, comment_none}
 use Rattle.yaml_text.proofs.line.comment_at.Goals as goal
 

@@ -1,6 +1,5 @@
-use Rattle.std.proofs.Common.{rules, arith, take, drop, length, ◌+◌}
+use Rattle.std.proofs.Common.{arith, ◌+◌}
 use Rattle.std.proofs.lemmas.List.{length-take, length-drop}
-use Rattle.std.proofs.lemmas.Grind.{common_steps}
 use Rattle.yaml_text.proofs.Cutting.{cuts, cuts_last, rest_of}
 use Rattle.yaml_text.proofs.line.first_line.Goals as goal
 

@@ -1,4 +1,4 @@
-use Rattle.std.proofs.Common.{rules, arith}
+use Rattle.std.proofs.Common.{rules}
 use Rattle.yaml_text.specs.Lines.{line_at}
 use Rattle.yaml_text.proofs.line.line_at.Goals as goal
 

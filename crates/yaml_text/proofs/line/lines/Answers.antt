@@ -1,5 +1,4 @@
 use Rattle.std.proofs.Common.{rules, arith, ◌+◌}
-use Rattle.std.proofs.lemmas.Grind.{common_steps}
 use Rattle.std.proofs.lemmas.Result.{err_from_is_err_and}
 use Rattle.yaml_text.proofs.LineSteps.{line_judged, line_refused, lines_begin, lines_end}
 use Rattle.yaml_text.proofs.line.lines.Goals as goal

@@ -1,4 +1,4 @@
-use Rattle.std.proofs.Common.{◌≡◌, ◌<◌, refl, length, ◌+◌, sym, ap, ◌∙◌, Err, arith}
+use Rattle.std.proofs.Common.{◌<◌, refl, length, ◌+◌, sym, ◌∙◌, arith}
 use Rattle.std.proofs.lemmas.Result.{err_from_is_err_and}
 use Rattle.yaml_text.specs.Blocks.{block}
 use Rattle.yaml_text.proofs.BlockSteps.{lines_between, item_refused, item_failed, item_last, item_more}

@@ -1,4 +1,4 @@
-use Rattle.std.proofs.Common.{◌≡◌, ◌<◌, ◌-◌, take, drop, refl, length, ◌+◌, sym, ap, ◌∙◌, Err, arith, eqb, true, false}
+use Rattle.std.proofs.Common.{◌≡◌, ◌<◌, ◌-◌, take, drop, refl, length, ◌+◌, sym, ap, ◌∙◌, arith, eqb, true, false}
 use Rattle.std.proofs.lemmas.Bool.Decides.{nat_tests}
 use Rattle.std.proofs.lemmas.Result.{err_from_is_err_and}
 use Rattle.yaml_text.specs.declared.fault.YamlKind.TheVariants.{NoColon}

@@ -1,1 +1,0 @@
-use Rattle.yaml_text.proofs.block.+block.Goals as goal

@@ -1,1 +1,0 @@
-use Rattle.yaml_text.proofs.flow.+value.Goals as goal
