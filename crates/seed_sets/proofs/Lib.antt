@@ -1,0 +1,5 @@
+pub mod AscendingLists
+pub mod GatheringLemmas
+pub mod EndingLemmas
+pub mod SectorLemmas
+pub mod SpecLemmas

@@ -1,0 +1,4 @@
+pub mod Seeds
+pub mod Gathering
+pub mod Endings
+pub mod Sectors
