@@ -4,12 +4,12 @@ ghost use Rattle.std.specs.Prelude.{◌≡◌, ◌<◌, ◌≤◌, ◌^◌, ◌+
 ghost use Rattle.std.specs.List.{list_any};
 ghost use Rattle.std.specs.Str.{bytes_eq};
 ghost use Rattle.kinematics.specs.Tokens.{Token, number, name, number_of};
-ghost use Rattle.kinematics.specs.Pieces.{token_of, placed_piece};
+ghost use Rattle.kinematics.specs.Pieces.{token_of, placed_piece, rest_from};
 ghost use Rattle.kinematics.specs.Names.{is_among};
 ghost use Rattle.kinematics.specs.Faults.{tokens_in, IsAtFault, IfFault};
 ghost use Rattle.kinematics.specs.declared.faults.TextKind.TheVariants.{BadMomentum};
 ghost use Rattle.kinematics.specs.Momenta.{IsMomentum, IsMomentumFault, IsMomentumText, momentum_blame, is_named};
-ghost use Rattle.kinematics.specs.MomentumReader.{follows, HasRead, IsTallied, IsTalliedText, HasRoom, with_term, has_small_sum, rest_from, tally_of};
+ghost use Rattle.kinematics.specs.MomentumReader.{follows, HasRead, IsTallied, IsTalliedText, HasRoom, with_term, has_small_sum, tally_of};
 
 use crate::faults::{TextError, TextFault, TextKind};
 use crate::momenta::Momentum;

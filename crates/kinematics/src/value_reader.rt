@@ -3,10 +3,9 @@
 ghost use Rattle.std.specs.Prelude.{◌≡◌, ◌<◌, ◌≤◌, ◌^◌, ◌+◌, ◌∷◌, [], ◌++◌, ℕ, List, Bool, true, false, IsTrue, length, slice_range, IfOk, OnOk, IfErr, MatchOption, MatchResult, Some, None, is_some};
 ghost use Rattle.kinematics.specs.declared.faults.TextKind.TheVariants.{BadExpression, TooDeep};
 ghost use Rattle.kinematics.specs.Tokens.{Token, tokens_of};
-ghost use Rattle.kinematics.specs.Pieces.{token_of, placed_piece};
+ghost use Rattle.kinematics.specs.Pieces.{token_of, placed_piece, rest_from};
 ghost use Rattle.kinematics.specs.Names.{is_among};
 ghost use Rattle.kinematics.specs.Faults.{tokens_in, CanGoOn, IsAtFault, IsBlameless, IfFault};
-ghost use Rattle.kinematics.specs.MomentumReader.{rest_from};
 ghost use Rattle.kinematics.specs.Values.{IsValue, IsValueFault, IsValueText, value_blame, number_blame, place_of};
 ghost use Rattle.kinematics.specs.ValueReader.{Context, advance};
 ghost use Rattle.kinematics.specs.ValueItems.{HasRead, product_items, sum_items};
