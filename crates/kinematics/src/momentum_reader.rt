@@ -316,12 +316,12 @@ fn read_tallies(alloc: Global, bytes: &[u8], names: &[Name]) -> Result<Vec<Tally
     Ok(tallies)
 }
 
-#[tactic(auto, using(crate::proofs::SmallSums::tallies_are_small, crate::proofs::SmallSums::is_momentum, crate::proofs::SmallSums::coefficients_in_range))]
 /// The momentum that a text writes over these names: each coefficient is the sum of its name's terms.
 ///
 /// The text is `[sign] term { sign term }`, where a term is a name, or a number, `*` and a name, and
 /// spaces may stand between tokens. A fault names the first token at fault, as `TextKind` says; a sum
 /// above 1000 in size is the fault of its name's last token.
+#[tactic(auto, using(crate::proofs::SmallSums::tallies_are_small, crate::proofs::SmallSums::is_momentum, crate::proofs::SmallSums::coefficients_in_range))]
 pub fn read_momentum(alloc: Global, text: &str, names: &[Name]) -> Result<Momentum, TextError>
     requires size { length text.now < 2 ^ 32 }
     requires few { length names.now < 2 ^ 32 }
