@@ -14,3 +14,4 @@ pub mod EvaluationLemmas
 pub mod LawLemmas
 pub mod PrintedTokens
 pub mod PrintedMomenta
+pub mod OutcomeLemmas

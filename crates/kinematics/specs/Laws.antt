@@ -1,7 +1,8 @@
 -- Laws of the readings of texts. The project's own.
-use Rattle.std.specs.Prelude.{◌≡◌, ℕ, ℤ, List}
+use Rattle.std.specs.Prelude.{◌≡◌, ◌<◌, ℕ, ℤ, List}
 use Rattle.kinematics.specs.declared.faults.TextKind.{TextKind}
 use Rattle.kinematics.specs.Trees.{Tree}
+use Rattle.kinematics.specs.Evaluation.{Outcome, HasOutcome}
 use Rattle.kinematics.specs.Values.{IsValue, IsValueFault}
 use Rattle.kinematics.specs.Momenta.{IsMomentum, IsMomentumFault}
 
@@ -27,3 +28,7 @@ ValueHasNoFault = (names : List (List ℕ)) (text : List ℕ) (t : Tree) (at : �
 
 abbrev pub MomentumHasNoFault : Type 0
 MomentumHasNoFault = (names : List (List ℕ)) (text : List ℕ) (cs : List ℤ) (at : ℕ) (kind : TextKind) → IsMomentum names text cs → IsMomentumFault names text at kind → ⊥
+
+-- an expression has at most one value or fault modulo a number above 1
+abbrev pub HasOneOutcome : Type 0
+HasOneOutcome = (p : ℕ) (residues : List ℕ) (t : Tree) (r q : Outcome) → 1 < p → HasOutcome p residues t r → HasOutcome p residues t q → r ≡ q

@@ -1,6 +1,6 @@
 -- What the reader of momenta keeps while it goes through the tokens. Private contracts speak of it.
-use Rattle.std.specs.Prelude.{◌≡◌, ℕ, ◌+◌, ◌*◌, ◌^◌, ◌<◌, ◌≤◌, nat_le, ◌&&◌, if◌then◌else◌, drop, Bool, List, [], ◌∷◌, ◌++◌, Option, Some, None, map, length, fold, option_and_then}
-use Rattle.kinematics.specs.Tokens.{Sign, sign_token, Token, Placed, tokens_from, tokens_of, nothing, number, name, plus, minus, star}
+use Rattle.std.specs.Prelude.{◌≡◌, ℕ, ◌+◌, ◌*◌, ◌^◌, ◌<◌, ◌≤◌, nat_le, ◌&&◌, if◌then◌else◌, Bool, List, [], ◌∷◌, ◌++◌, Option, Some, None, map, length, fold, option_and_then}
+use Rattle.kinematics.specs.Tokens.{Sign, sign_token, Token, tokens_of, number, name, plus, minus, star}
 use Rattle.kinematics.specs.Faults.{tokens_in, IsBlameless}
 use Rattle.kinematics.specs.Momenta.{Terms, terms_tokens, sum_of, IsMomentumText, momentum_blame}
 use Rattle.kinematics.specs.declared.momentum_reader.Expected.{Expected}
@@ -79,10 +79,6 @@ has_small_sum t = nat_le t.added (t.taken + 1000) && nat_le t.taken (t.added + 1
 -- the tallies leave room for a term
 abbrev pub HasRoom : Tally → Type 0
 HasRoom t = (t.added < 2 ^ 63) × (t.taken < 2 ^ 63)
-
--- what the bytes from an offset on hold
-abbrev pub rest_from : List ℕ → ℕ → List Placed
-rest_from bytes from = tokens_from nothing from (drop from bytes)
 
 -- the text is in the grammar, none of its tokens is blamed, and these are its names' tallies
 pub record IsTalliedText (names : List (List ℕ)) (text : List ℕ) (kept : List Tally) : Type 0 where

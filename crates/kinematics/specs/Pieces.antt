@@ -1,6 +1,6 @@
 -- What the reader's pieces of a text stand for.
-use Rattle.std.specs.Prelude.{ℕ, List, slice_range, if◌then◌else◌, ◌==◌}
-use Rattle.kinematics.specs.Tokens.{Token, Placed, number, name, plus, minus, star, slash, caret, opening, closing, other, is_digit, is_letter}
+use Rattle.std.specs.Prelude.{ℕ, List, drop, slice_range, if◌then◌else◌, ◌==◌}
+use Rattle.kinematics.specs.Tokens.{Token, Placed, number, name, plus, minus, star, slash, caret, opening, closing, other, is_digit, is_letter, nothing, tokens_from}
 use Rattle.kinematics.specs.declared.tokens.Kind.{Kind}
 use Rattle.kinematics.specs.declared.tokens.Kind.TheVariants as kind
 use Rattle.kinematics.specs.declared.tokens.Piece.{Piece}
@@ -28,3 +28,7 @@ kind_of_byte b =
     else if b == 43 then kind.Plus else if b == 45 then kind.Minus else if b == 42 then kind.Star
     else if b == 47 then kind.Slash else if b == 94 then kind.Caret
     else if b == 40 then kind.Opening else if b == 41 then kind.Closing else kind.Other
+
+-- the tokens of the bytes from an offset on
+abbrev pub rest_from : List ℕ → ℕ → List Placed
+rest_from bytes from = tokens_from nothing from (drop from bytes)

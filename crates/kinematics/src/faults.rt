@@ -2,7 +2,6 @@
 
 use field_word::Composite;
 use out_of_memory::OutOfMemory;
-use std::alloc::{AllocError, AllocFailed};
 use thiserror::Error;
 
 /// What is wrong with a text. Contracts name the kind that comes first.
@@ -52,28 +51,6 @@ impl From<OutOfMemory> for TextError {
     ghost from_gives = { λ _ e. e ≡ text_error.OutOfMemory };
 
     fn from(_refused: OutOfMemory) -> TextError {
-        TextError::OutOfMemory
-    }
-}
-
-impl From<AllocError> for TextError {
-    ghost use Rattle.std.specs.Prelude.{◌≡◌};
-    ghost use Rattle.kinematics.specs.declared.faults.TextError.TheVariants as text_error;
-
-    ghost from_gives = { λ _ e. e ≡ text_error.OutOfMemory };
-
-    fn from(_refused: AllocError) -> TextError {
-        TextError::OutOfMemory
-    }
-}
-
-impl<T: Drop> From<AllocFailed<T>> for TextError {
-    ghost use Rattle.std.specs.Prelude.{◌≡◌};
-    ghost use Rattle.kinematics.specs.declared.faults.TextError.TheVariants as text_error;
-
-    ghost from_gives = { λ _ e. e ≡ text_error.OutOfMemory };
-
-    fn from(_refused: AllocFailed<T>) -> TextError {
         TextError::OutOfMemory
     }
 }

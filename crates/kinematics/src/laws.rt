@@ -1,7 +1,7 @@
 //! Laws of the readings of texts.
 
 ghost use Rattle.kinematics.specs.Printed.{PrintedReadsBack};
-ghost use Rattle.kinematics.specs.Laws.{ReadsAsOneValue, ReadsAsOneMomentum, HasOneValueFault, HasOneMomentumFault, ValueHasNoFault, MomentumHasNoFault};
+ghost use Rattle.kinematics.specs.Laws.{ReadsAsOneValue, ReadsAsOneMomentum, HasOneValueFault, HasOneMomentumFault, ValueHasNoFault, MomentumHasNoFault, HasOneOutcome};
 
 /// A text has at most one reading as a value and at most one as a momentum, or at most one first fault,
 /// and never both. It does nothing when it runs.
@@ -18,4 +18,10 @@ pub fn readings_are_unique()
 /// that `printed` gives, as `+2*k1-1*k2`. It does nothing when it runs.
 pub fn printed_momentum_reads_back()
     ensures { PrintedReadsBack }
+{}
+
+/// An expression has at most one value, or one fault, modulo a number above 1. It does nothing when it
+/// runs.
+pub fn values_are_unique()
+    ensures { HasOneOutcome }
 {}

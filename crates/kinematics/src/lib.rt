@@ -14,7 +14,7 @@ mod value_reader;
 
 pub use expressions::Expression;
 pub use faults::{TextError, TextFault, TextKind, ValueFault};
-pub use laws::{printed_momentum_reads_back, readings_are_unique};
+pub use laws::{printed_momentum_reads_back, readings_are_unique, values_are_unique};
 pub use momenta::Momentum;
 pub use momentum_reader::read_momentum;
 pub use names::Name;

@@ -4,12 +4,12 @@ ghost use Rattle.std.specs.Prelude.{◌≡◌, ◌<◌, ◌≤◌, ◌^◌, ◌+
 ghost use Rattle.std.specs.List.{list_any};
 ghost use Rattle.std.specs.Str.{bytes_eq};
 ghost use Rattle.kinematics.specs.Tokens.{Token, number, name, number_of};
-ghost use Rattle.kinematics.specs.Pieces.{token_of, placed_piece};
+ghost use Rattle.kinematics.specs.Pieces.{token_of, placed_piece, rest_from};
 ghost use Rattle.kinematics.specs.Names.{is_among};
 ghost use Rattle.kinematics.specs.Faults.{tokens_in, IsAtFault, IfFault};
 ghost use Rattle.kinematics.specs.declared.faults.TextKind.TheVariants.{BadMomentum};
 ghost use Rattle.kinematics.specs.Momenta.{IsMomentum, IsMomentumFault, IsMomentumText, momentum_blame, is_named};
-ghost use Rattle.kinematics.specs.MomentumReader.{follows, HasRead, IsTallied, IsTalliedText, HasRoom, with_term, has_small_sum, rest_from, tally_of};
+ghost use Rattle.kinematics.specs.MomentumReader.{follows, HasRead, IsTallied, IsTalliedText, HasRoom, with_term, has_small_sum, tally_of};
 
 use crate::faults::{TextError, TextFault, TextKind};
 use crate::momenta::Momentum;
@@ -316,12 +316,12 @@ fn read_tallies(alloc: Global, bytes: &[u8], names: &[Name]) -> Result<Vec<Tally
     Ok(tallies)
 }
 
-#[tactic(auto, using(crate::proofs::SmallSums::tallies_are_small, crate::proofs::SmallSums::is_momentum, crate::proofs::SmallSums::coefficients_in_range))]
 /// The momentum that a text writes over these names: each coefficient is the sum of its name's terms.
 ///
 /// The text is `[sign] term { sign term }`, where a term is a name, or a number, `*` and a name, and
 /// spaces may stand between tokens. A fault names the first token at fault, as `TextKind` says; a sum
 /// above 1000 in size is the fault of its name's last token.
+#[tactic(auto, using(crate::proofs::SmallSums::tallies_are_small, crate::proofs::SmallSums::is_momentum, crate::proofs::SmallSums::coefficients_in_range))]
 pub fn read_momentum(alloc: Global, text: &str, names: &[Name]) -> Result<Momentum, TextError>
     requires size { length text.now < 2 ^ 32 }
     requires few { length names.now < 2 ^ 32 }

@@ -3,10 +3,9 @@
 ghost use Rattle.std.specs.Prelude.{◌≡◌, ◌<◌, ◌≤◌, ◌^◌, ◌+◌, ◌∷◌, [], ◌++◌, ℕ, List, Bool, true, false, IsTrue, length, slice_range, IfOk, OnOk, IfErr, MatchOption, MatchResult, Some, None, is_some};
 ghost use Rattle.kinematics.specs.declared.faults.TextKind.TheVariants.{BadExpression, TooDeep};
 ghost use Rattle.kinematics.specs.Tokens.{Token, tokens_of};
-ghost use Rattle.kinematics.specs.Pieces.{token_of, placed_piece};
+ghost use Rattle.kinematics.specs.Pieces.{token_of, placed_piece, rest_from};
 ghost use Rattle.kinematics.specs.Names.{is_among};
 ghost use Rattle.kinematics.specs.Faults.{tokens_in, CanGoOn, IsAtFault, IsBlameless, IfFault};
-ghost use Rattle.kinematics.specs.MomentumReader.{rest_from};
 ghost use Rattle.kinematics.specs.Values.{IsValue, IsValueFault, IsValueText, value_blame, number_blame, place_of};
 ghost use Rattle.kinematics.specs.ValueReader.{Context, advance};
 ghost use Rattle.kinematics.specs.ValueItems.{HasRead, product_items, sum_items};
@@ -19,12 +18,14 @@ use crate::tokens::{Kind, Piece, next_piece};
 use out_of_memory::OutOfMemory;
 use std::alloc::Global;
 
-/// What may come next in the innermost sum: an atom, and before its first product a sign too; the number
-/// behind `^`; or what goes on behind an atom or a power, of which only an atom may be raised.
+/// What may come next in the innermost sum.
 #[derive(Clone, Copy, Debug, PartialEq, Eq)]
 enum Mode {
+    /// An atom; `true` where a first sign may come too.
     BeforeAtom(bool),
+    /// The number behind `^`.
     BeforeExponent,
+    /// What goes on behind a power; `true` where it is a mere atom, which may still be raised.
     Behind(bool),
 }
 
@@ -80,6 +81,7 @@ const NEW_LEVEL: Level = Level {
     product: ProductMark::Nothing,
 };
 
+/// Adds the operation that ends a product.
 fn push_product(items: &mut Vec<Item>, mark: ProductMark) -> Result<(), OutOfMemory>
     ensures { OnOk result (items.new.items ≡ items.old.items ++ product_items mark) }
 {
@@ -91,6 +93,7 @@ fn push_product(items: &mut Vec<Item>, mark: ProductMark) -> Result<(), OutOfMem
     Ok(())
 }
 
+/// Adds the operations that end a product and the sum around it.
 fn push_sum(items: &mut Vec<Item>, level: Level) -> Result<(), OutOfMemory>
     ensures { OnOk result (items.new.items ≡ items.old.items ++ (product_items level.product ++ sum_items level.sum)) }
 {
@@ -182,6 +185,7 @@ impl Reader {
         }
     }
 
+    /// Takes a number or a name.
     fn operand(&mut self, item: Item) -> Result<(), OutOfMemory>
         ensures { OnOk result (HasDone (action.Operand item) self.old self.new) }
     {
@@ -190,6 +194,7 @@ impl Reader {
         Ok(())
     }
 
+    /// Takes an exponent.
     fn exponent(&mut self, exponent: u8) -> Result<(), OutOfMemory>
         ensures { OnOk result (HasDone (action.Exponent exponent) self.old self.new) }
     {
@@ -198,6 +203,7 @@ impl Reader {
         Ok(())
     }
 
+    /// Takes `(`.
     fn open(&mut self) -> Result<(), OutOfMemory>
         ensures { OnOk result (HasDone action.Open self.old self.new) }
     {
@@ -207,6 +213,7 @@ impl Reader {
         Ok(())
     }
 
+    /// Takes `)`.
     fn close(&mut self) -> Result<(), OutOfMemory>
         ensures { OnOk result (HasDone action.Close self.old self.new) }
     {
@@ -218,6 +225,7 @@ impl Reader {
         Ok(())
     }
 
+    /// Takes `+` or `-`.
     fn sign(&mut self, is_minus: bool) -> Result<(), OutOfMemory>
         requires { self.old.signs ≤ 1000 }
         ensures { OnOk result (HasDone (action.Sign is_minus) self.old self.new) }
@@ -248,6 +256,7 @@ impl Reader {
         Ok(())
     }
 
+    /// Takes `*` or `/`.
     fn factor(&mut self, mark: ProductMark) -> Result<(), OutOfMemory>
         requires { self.old.signs ≤ 1000 }
         ensures { OnOk result (HasDone (action.Factor mark) self.old self.new) }
@@ -262,6 +271,7 @@ impl Reader {
         Ok(())
     }
 
+    /// Takes `^`.
     fn raise(&mut self)
         requires { self.old.signs ≤ 1000 }
         ensures { HasDone action.Raise self.old self.new }
@@ -270,6 +280,7 @@ impl Reader {
         self.signs += 1;
     }
 
+    /// Does an action; on a refusal the reader is to be dropped.
     fn perform(&mut self, action: Action) -> Result<(), OutOfMemory>
         requires { self.old.signs ≤ 1000 }
         ensures { OnOk result (HasDone action self.old self.new) }

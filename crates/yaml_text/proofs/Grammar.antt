@@ -51,7 +51,7 @@ plain_short : (b : ℕ) (bs : Bytes) → length (plain (b ∷ bs)).1 ≤ length 
 plain_short b bs =
     plain_cases (is_whole (trim_end (take (plain_length (b ∷ bs)) (b ∷ bs)))) _ (plain_length (b ∷ bs)) b bs (whole_some (plain_length (b ∷ bs)) (b ∷ bs))
 
-piece_short : (b : ℕ) (bs : Bytes) → length (behind (b ∷ bs)) ≤ length bs
+pub piece_short : (b : ℕ) (bs : Bytes) → length (behind (b ∷ bs)) ≤ length bs
 unfolding piece
 piece_short b bs =
     let r5 : Token × Bytes = cond (eqb b 44) (Comma, skip bs) (plain (b ∷ bs)) in
@@ -68,7 +68,7 @@ piece_short b bs =
     (cond_short (eqb b 125) (CloseMap, skip bs) r5 n h
     (cond_short (eqb b 44) (Comma, skip bs) (plain (b ∷ bs)) n h (plain_short b bs))))))
 
-no_piece : token [] ≡ Bad
+pub no_piece : token [] ≡ Bad
 unfolding piece
 no_piece = refl
 
@@ -86,7 +86,7 @@ if_same : (o : Option (List Goal)) (f h : List Goal → Bool) → ((gs : List Go
 if_same None f h same = refl
 if_same (Some gs) f h same = same gs
 
-nothing_fits : (n : ℕ) (goal : Goal) (gs : List Goal) → fits n (goal ∷ gs) [] ≡ false
+pub nothing_fits : (n : ℕ) (goal : Goal) (gs : List Goal) → fits n (goal ∷ gs) [] ≡ false
 unfolding fits
 nothing_fits zero goal gs = refl
 nothing_fits (suc n) goal gs = rw (no_piece, step_bad goal) refl
@@ -104,7 +104,7 @@ fits_enough (suc n) (suc m) (g ∷ gs) (b ∷ bs) h k =
     if_same (step g (token (b ∷ bs))) _ _ (λ more. fits_enough n m (more ++ gs) (behind (b ∷ bs)) (omega (arith, piece_short b bs)) (omega (arith, piece_short b bs)))
 
 -- with as many pieces as the text may have
-abbrev fit : List Goal → Bytes → Bool
+abbrev pub fit : List Goal → Bytes → Bool
 fit gs text = fits (length text) gs text
 
 fit_step : (g : Goal) (gs : List Goal) (text : Bytes) → fit (g ∷ gs) text ≡ if_some (step g (token text)) (λ more. fit (more ++ gs) (behind text))
@@ -113,19 +113,19 @@ fit_step g gs [] = rw (no_piece, step_bad g) refl
 fit_step g gs (b ∷ bs) =
     if_same (step g (token (b ∷ bs))) _ _ (λ more. fits_enough (length bs) (length (behind (b ∷ bs))) (more ++ gs) (behind (b ∷ bs)) (piece_short b bs) (omega arith))
 
-fit_at : (g : Goal) (gs : List Goal) (text : Bytes) (t : Token) → token text ≡ t → fit (g ∷ gs) text ≡ if_some (step g t) (λ more. fit (more ++ gs) (behind text))
+pub fit_at : (g : Goal) (gs : List Goal) (text : Bytes) (t : Token) → token text ≡ t → fit (g ∷ gs) text ≡ if_some (step g t) (λ more. fit (more ++ gs) (behind text))
 fit_at g gs text t e = fit_step g gs text ∙ ap (λ u. if_some (step g u) (λ more. fit (more ++ gs) (behind text))) e
 
 -- ---- what is read
 
-Ok_same : {A : Type 0} {E : Type 0} (x y : A) → ◌≡◌ {A = Result A E} (Ok x) (Ok y) → x ≡ y
+pub Ok_same : {A : Type 0} {E : Type 0} (x y : A) → ◌≡◌ {A = Result A E} (Ok x) (Ok y) → x ≡ y
 Ok_same x y e = cc
 
-Err_wrong : {A : Type 0} {E : Type 0} {P : Type 0} (x : A) (y : E) → ◌≡◌ {A = Result A E} (Err y) (Ok x) → P
+pub Err_wrong : {A : Type 0} {E : Type 0} {P : Type 0} (x : A) (y : E) → ◌≡◌ {A = Result A E} (Err y) (Ok x) → P
 Err_wrong x y e = absurd (cc)
 
 -- where a step and the next one give a value, the first gives one, from which the next goes on
-first_ok : {A B : Type 0} (o : Outcome A) (f : A → Outcome B) (v : B) → (o >>= f) ≡ Ok v → (a : A) × (o ≡ Ok a) × (f a ≡ Ok v)
+pub first_ok : {A B : Type 0} (o : Outcome A) (f : A → Outcome B) (v : B) → (o >>= f) ≡ Ok v → (a : A) × (o ≡ Ok a) × (f a ≡ Ok v)
 first_ok (Ok a) f v e = (a, refl, e)
 first_ok (Err x) f v e = Err_wrong v x e
 
@@ -161,7 +161,7 @@ module _ (line : ℕ) (inner : Parser Tree)
       ∙ after_item n (found ++ one.0.0 ∷ []) all gs one.0.1 rest (token one.0.1) refl
       (λ fin k. items_from_fit n (found ++ one.0.0 ∷ []) fin gs (behind one.0.1) rest k) one.2
 
-  open_items : (t : Token) (gs : List Goal) (text : Bytes) → token text ≡ t → step ItemOrEnd t ≡ and_then (for_value t) NextItem
+  pub open_items : (t : Token) (gs : List Goal) (text : Bytes) → token text ≡ t → step ItemOrEnd t ≡ and_then (for_value t) NextItem
       → fit (ItemOrEnd ∷ gs) text ≡ fit (Value ∷ NextItem ∷ gs) text
   open_items t gs text e same =
       fit_at ItemOrEnd gs text t e ∙ ap (λ o. if_some o (λ more. fit (more ++ gs) (behind text))) same
@@ -262,7 +262,7 @@ by_fit line as_list as_map Comma gs text rest tree e l m h = Err_wrong _ _ h
 by_fit line as_list as_map (Key w) gs text rest tree e l m h = Err_wrong _ _ h
 by_fit line as_list as_map Bad gs text rest tree e l m h = Err_wrong _ _ h
 
-value_fit : (line depth : ℕ) (gs : List Goal) (text rest : Bytes) (tree : Tree) → value line depth text ≡ Ok (tree, rest) → fit (Value ∷ gs) text ≡ fit gs rest
+pub value_fit : (line depth : ℕ) (gs : List Goal) (text rest : Bytes) (tree : Tree) → value line depth text ≡ Ok (tree, rest) → fit (Value ∷ gs) text ≡ fit gs rest
 unfolding value
 value_fit line zero gs text rest tree h =
     by_fit line (λ r. refuse line kind.TooDeep) (λ r. refuse line kind.TooDeep) (token text) gs text rest tree refl (λ all k. Err_wrong (all, rest) _ k) (λ all k. Err_wrong (all, rest) _ k) h

@@ -8,3 +8,4 @@ pub mod BlockSteps
 pub mod Settled
 pub mod OneWord
 pub mod Grammar
+pub mod NeverRefused

@@ -2,7 +2,7 @@ use Rattle.std.proofs.Common.{◌≡◌, ◌≤◌, ◌-◌, length}
 use Rattle.std.specs.List.{list_any}
 use Rattle.kinematics.specs.Faults.{tokens_in}
 use Rattle.kinematics.specs.Momenta.{is_named}
-use Rattle.kinematics.specs.MomentumReader.{rest_from}
+use Rattle.kinematics.specs.Pieces.{rest_from}
 use Rattle.kinematics.proofs.momentum_reader.comes_again.Given as goal
 
 abbrev pub invariant-loop-piece : goal.invariant-loop-piece

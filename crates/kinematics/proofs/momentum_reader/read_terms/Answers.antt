@@ -3,9 +3,9 @@ use Rattle.std.proofs.lemmas.List.{length_push, length-map}
 use Rattle.std.proofs.lemmas.Option.{MatchOption-at_none}
 use Rattle.kinematics.specs.declared.faults.TextKind.TheVariants.{BadMomentum}
 use Rattle.kinematics.specs.Tokens.{tokens_of}
-use Rattle.kinematics.specs.Pieces.{placed_piece}
+use Rattle.kinematics.specs.Pieces.{placed_piece, rest_from}
 use Rattle.kinematics.specs.Momenta.{IsMomentumText, momentum_blame}
-use Rattle.kinematics.specs.MomentumReader.{rest_from, tally_of}
+use Rattle.kinematics.specs.MomentumReader.{tally_of}
 use Rattle.kinematics.proofs.Reading.{HasCome, come_more, fault_at_end}
 use Rattle.kinematics.proofs.MomentumLemmas.{goes_on, whole}
 use Rattle.kinematics.proofs.TallyLemmas.{room}

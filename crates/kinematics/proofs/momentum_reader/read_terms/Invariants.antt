@@ -2,7 +2,8 @@ use Rattle.std.proofs.Common.{◌≤◌, ◌-◌, List, length}
 use Rattle.kinematics.specs.declared.faults.TextKind.TheVariants.{BadMomentum}
 use Rattle.kinematics.specs.Tokens.{Token, tokens_of}
 use Rattle.kinematics.specs.Momenta.{IsMomentumText, momentum_blame}
-use Rattle.kinematics.specs.MomentumReader.{HasRead, rest_from}
+use Rattle.kinematics.specs.MomentumReader.{HasRead}
+use Rattle.kinematics.specs.Pieces.{rest_from}
 use Rattle.kinematics.proofs.Reading.{HasCome}
 use Rattle.kinematics.proofs.momentum_reader.read_terms.Given as goal
 

@@ -1,7 +1,8 @@
 use Rattle.std.proofs.Common.{◌≡◌, ◌∙◌, true, false, sym}
 use Rattle.std.specs.Prelude.{slice_range}
 use Rattle.kinematics.specs.Faults.{tokens_in}
-use Rattle.kinematics.specs.MomentumReader.{has_small_sum, rest_from}
+use Rattle.kinematics.specs.MomentumReader.{has_small_sum}
+use Rattle.kinematics.specs.Pieces.{rest_from}
 use Rattle.kinematics.proofs.NameLemmas.{among_at}
 use Rattle.kinematics.proofs.TallyLemmas.{tallied_name, blame_small, blame_again, blame_range, small_is}
 use Rattle.kinematics.proofs.momentum_reader.take_name.Goals as goal

@@ -2,8 +2,7 @@ use Rattle.std.proofs.Common.{◌∙◌, sym}
 use Rattle.std.specs.Prelude.{slice_range}
 use Rattle.std.proofs.lemmas.Result.{err_from_is_err_and}
 use Rattle.kinematics.specs.Faults.{tokens_in}
-use Rattle.kinematics.specs.MomentumReader.{rest_from}
-use Rattle.kinematics.specs.Pieces.{token_of}
+use Rattle.kinematics.specs.Pieces.{token_of, rest_from}
 use Rattle.kinematics.proofs.MomentumSteps.{number_done, name_done, plus_done, minus_done, star_done, token_refused, token_blamed, number_blamed, name_blamed}
 use Rattle.kinematics.proofs.momentum_reader.take_token.Goals as goal
 

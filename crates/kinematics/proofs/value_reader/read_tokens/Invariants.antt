@@ -2,7 +2,7 @@ use Rattle.std.proofs.Common.{◌≤◌, ◌-◌, List, length}
 use Rattle.kinematics.specs.declared.faults.TextKind.TheVariants.{BadExpression}
 use Rattle.kinematics.specs.Tokens.{Token, tokens_of}
 use Rattle.kinematics.specs.Values.{IsValueText, value_blame}
-use Rattle.kinematics.specs.MomentumReader.{rest_from}
+use Rattle.kinematics.specs.Pieces.{rest_from}
 use Rattle.kinematics.specs.ValueItems.{HasRead}
 use Rattle.kinematics.proofs.Reading.{HasCome}
 use Rattle.kinematics.proofs.value_reader.read_tokens.Given as goal
