@@ -1,7 +1,7 @@
 -- Lists that ascend, each element once.
-use Rattle.std.proofs.Common.{◌≡◌, ◌≢◌, ℕ, zero, suc, ◌<◌, ◌≤◌, true, false, List, [], ◌∷◌, length, refl, sym, ap, subst, ◌∙◌, arith, ◌⊎◌, inl, inr}
+use Rattle.std.proofs.Common.{◌≡◌, ◌≢◌, zero, suc, List, [], ◌∷◌, refl, sym, ap, subst, ◌∙◌, arith, ◌⊎◌, inl, inr}
 use mathlib.Core.Bool.{true≢false}
-use Rattle.std.specs.Prelude.{◌↔◌, Contains}
+use Rattle.std.specs.Prelude.{Contains}
 use Rattle.std.specs.List.{dedup}
 use Rattle.std.specs.List.Sorted.{IsSorted, IsStrictlySortedBy}
 use Rattle.std.specs.Cmp.{Equal-is}
@@ -72,7 +72,6 @@ Ascends-from_sorted order (x ∷ xs) up =
 pub Ascends-dedup : (order : Order) (xs : List Integral) → IsSorted (compare order) xs → Ascends order (dedup (λ x y. is_eq (compare order x y)) xs)
 Ascends-dedup order xs up =
     Ascends-from_sorted order _ (IsStrictlySortedBy-dedup (compare-total order) (λ x y. refl) xs up)
-
 
 -- and nothing is lost
 pub Contains-dedup_order : (order : Order) (xs : List Integral) (x : Integral) → Contains xs x → Contains (dedup (λ x y. is_eq (compare order x y)) xs) x

@@ -74,29 +74,44 @@ module _ (rest : Rest) (some : 0 < rest.places) where
   from_by true (pos (suc n)) tail bit h =
       let sector = sym (sector_of-positive n tail) ∙ h.sector in
       let dots : 1 + n + r_of tail ≤ 1 + t_of tail + rest.dots =
-          subst (λ (m : ℕ). m ≤ 1 + t_of tail + rest.dots) (r_of-cons (pos (suc n)) tail ∙ suc_first n (r_of tail))
-          (subst (λ (m : ℕ). r_of (pos (suc n) ∷ tail) ≤ m + rest.dots) (t_of-positive n tail) h.dots) in
-      let low = t_of-le-r_of tail in (n, omega (arith, dots, low), refl, record {
-        places = omega (arith, h.places);
-        sector = omega (arith, sector, bit);
-        dots = omega (arith, dots, low);
-        s = omega (arith, h.s, s_of-cons (pos (suc n)) tail);
-      })
+      subst (λ (m : ℕ). m ≤ 1 + t_of tail + rest.dots) (r_of-cons (pos (suc n)) tail ∙ suc_first n (r_of tail))
+      (subst (λ (m : ℕ). r_of (pos (suc n) ∷ tail) ≤ m + rest.dots) (t_of-positive n tail) h.dots) in
+      let low = t_of-le-r_of tail in (
+        n,
+        omega (arith, dots, low),
+        refl,
+        record {
+          places = omega (arith, h.places);
+          sector = omega (arith, sector, bit);
+          dots = omega (arith, dots, low);
+          s = omega (arith, h.s, s_of-cons (pos (suc n)) tail);
+        },
+      )
   from_by true (pos zero) tail bit h = absurd (omega (arith, h.sector, bit))
   from_by true (negsuc n) tail bit h = absurd (omega (arith, h.sector, bit))
   from_by false (pos (suc n)) tail bit h = absurd (twice_odd _ _ _ _ (sym h.sector ∙ sector_of-positive n tail) bit refl)
-  from_by false (pos zero) tail bit h = (0, omega arith, refl, record {
-    places = omega (arith, h.places);
-    sector = omega (arith, h.sector, bit);
-    dots = omega (arith, h.dots, r_of-cons (pos 0) tail, t_of-cons (pos 0) tail);
-    s = omega (arith, h.s, s_of-cons (pos 0) tail);
-  })
-  from_by false (negsuc n) tail bit h = (suc n, omega (arith, h.s, s_of-cons (negsuc n) tail), refl, record {
-    places = omega (arith, h.places);
-    sector = omega (arith, h.sector, bit);
-    dots = omega (arith, h.dots, r_of-cons (negsuc n) tail, t_of-cons (negsuc n) tail);
-    s = omega (arith, h.s, s_of-cons (negsuc n) tail);
-  })
+  from_by false (pos zero) tail bit h = (
+    0,
+    omega arith,
+    refl,
+    record {
+      places = omega (arith, h.places);
+      sector = omega (arith, h.sector, bit);
+      dots = omega (arith, h.dots, r_of-cons (pos 0) tail, t_of-cons (pos 0) tail);
+      s = omega (arith, h.s, s_of-cons (pos 0) tail);
+    },
+  )
+  from_by false (negsuc n) tail bit h = (
+    suc n,
+    omega (arith, h.s, s_of-cons (negsuc n) tail),
+    refl,
+    record {
+      places = omega (arith, h.places);
+      sector = omega (arith, h.sector, bit);
+      dots = omega (arith, h.dots, r_of-cons (negsuc n) tail, t_of-cons (negsuc n) tail);
+      s = omega (arith, h.s, s_of-cons (negsuc n) tail);
+    },
+  )
 
   step_to : (family : ℕ) (first : List ℤ) (x : Integral) → Continues family first rest x → IsBefore (choices rest) (λ k. Continues family (first ++ index_at rest k ∷ []) (after rest k)) x
   unfolding Found

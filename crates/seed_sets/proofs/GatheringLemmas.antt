@@ -1,5 +1,5 @@
 -- How a list of integrals grows, step by step, and why it can't.
-use Rattle.std.proofs.Common.{◌≡◌, ℕ, ◌+◌, ◌<◌, ◌≤◌, List, [], ◌∷◌, ◌++◌, sym, subst, arith, ◌⊎◌, inl, inr}
+use Rattle.std.proofs.Common.{◌≡◌, ℕ, ◌+◌, ◌<◌, List, [], ◌∷◌, ◌++◌, sym, subst, arith, ◌⊎◌, inl, inr}
 use Rattle.std.specs.Prelude.{◌↔◌, Contains}
 use Rattle.std.proofs.lemmas.Bool.{cases_lt}
 use Rattle.std.proofs.lemmas.List.Elements.{Contains-append_left, Contains-push, Contains-push_cases}
@@ -7,7 +7,7 @@ use Rattle.integral_index.specs.declared.Order.{Order}
 use Rattle.integral_index.specs.Integral.{Integral}
 use Rattle.seed_sets.specs.declared.faults.SeedFault.{SeedFault}
 use Rattle.seed_sets.specs.declared.faults.SeedFault.TheVariants.{TooMany, OutOfMemory}
-use Rattle.seed_sets.specs.Seeds.{AreMore, IsCause}
+use Rattle.seed_sets.specs.Seeds.{IsCause}
 use Rattle.seed_sets.specs.Gathering.{IsAmong, Gains, IsBefore}
 
 pub before_more : (n : ℕ) (Kinds : ℕ → Integral → Type 0) (x : Integral) → IsBefore n Kinds x → IsBefore (n + 1) Kinds x
@@ -23,14 +23,14 @@ before_or_at n Kinds x w =
 pub Gains-none : (old : List Integral) (Kinds : ℕ → Integral → Type 0) → Gains old old (IsBefore 0 Kinds)
 Gains-none old Kinds x = (
   λ m. inl m,
-  λ w. elim w [ | inl m ↦ m | inr v ↦ absurd (omega (arith, v.1)) ],
+  λ w. elim w [ inl m ↦ m | inr v ↦ absurd (omega (arith, v.1)) ],
 )
 
 -- nothing was added where there is nothing of the kind
 pub Gains-nothing : (old : List Integral) (Kind : Integral → Type 0) → ((x : Integral) → ¬ (Kind x)) → Gains old old Kind
 Gains-nothing old Kind none x = (
   λ m. inl m,
-  λ w. elim w [ | inl m ↦ m | inr v ↦ absurd (none x v) ],
+  λ w. elim w [ inl m ↦ m | inr v ↦ absurd (none x v) ],
 )
 
 pub Gains-more : (old mid new : List Integral) (n : ℕ) (Kinds : ℕ → Integral → Type 0) → Gains old mid (IsBefore n Kinds) → Gains mid new (Kinds n) → Gains old new (IsBefore (n + 1) Kinds)
@@ -39,7 +39,7 @@ Gains-more old mid new n Kinds was now x = (to, from)
     to : Contains new x → IsAmong old (IsBefore (n + 1) Kinds) x
     to m =
         elim ((now x).0 m) [
-          | inl in_mid ↦ elim ((was x).0 in_mid) [ | inl in_old ↦ inl in_old | inr w ↦ inr (before_more n Kinds x w) ]
+          | inl in_mid ↦ elim ((was x).0 in_mid) [ inl in_old ↦ inl in_old | inr w ↦ inr (before_more n Kinds x w) ]
           | inr kind ↦ inr (n, omega arith, kind)
         ]
 
@@ -55,8 +55,8 @@ Gains-more old mid new n Kinds was now x = (to, from)
 
 pub Gains-same : (old new : List Integral) (P Q : Integral → Type 0) → ((x : Integral) → P x ↔ Q x) → Gains old new P → Gains old new Q
 Gains-same old new P Q same gains x = (
-  λ m. elim ((gains x).0 m) [ | inl in_old ↦ inl in_old | inr p ↦ inr ((same x).0 p) ],
-  λ w. elim w [ | inl in_old ↦ (gains x).1 (inl in_old) | inr q ↦ (gains x).1 (inr ((same x).1 q)) ],
+  λ m. elim ((gains x).0 m) [ inl in_old ↦ inl in_old | inr p ↦ inr ((same x).0 p) ],
+  λ w. elim w [ inl in_old ↦ (gains x).1 (inl in_old) | inr q ↦ (gains x).1 (inr ((same x).1 q)) ],
 )
 
 pub IsCause-weaker : (order : Order) (most : ℕ) (P Q : Integral → Type 0) → ((x : Integral) → P x → Q x) → (e : SeedFault) → IsCause order most P e → IsCause order most Q e
@@ -65,7 +65,7 @@ IsCause-weaker order most P Q f (TooMany count) cause =
 IsCause-weaker order most P Q f OutOfMemory cause = tt
 
 among_same : (old : List Integral) (P Q : Integral → Type 0) → ((x : Integral) → P x → Q x) → (x : Integral) → IsAmong old P x → IsAmong old Q x
-among_same old P Q f x w = elim w [ | inl m ↦ inl m | inr p ↦ inr (f x p) ]
+among_same old P Q f x w = elim w [ inl m ↦ inl m | inr p ↦ inr (f x p) ]
 
 pub IsCause-same : (order : Order) (most : ℕ) (old : List Integral) (P Q : Integral → Type 0) → ((x : Integral) → P x → Q x) → (e : SeedFault) → IsCause order most (IsAmong old P) e → IsCause order most (IsAmong old Q) e
 IsCause-same order most old P Q f = IsCause-weaker order most (IsAmong old P) (IsAmong old Q) (among_same old P Q f)
@@ -77,7 +77,7 @@ IsCause-more order most old mid n m Kinds below was = IsCause-weaker order most 
     step : (x : Integral) → IsAmong mid (Kinds n) x → IsAmong old (IsBefore m Kinds) x
     step x w =
         elim w [
-          | inl in_mid ↦ elim ((was x).0 in_mid) [ | inl in_old ↦ inl in_old | inr v ↦ inr (v.0, omega (arith, v.1), v.2) ]
+          | inl in_mid ↦ elim ((was x).0 in_mid) [ inl in_old ↦ inl in_old | inr v ↦ inr (v.0, omega (arith, v.1), v.2) ]
           | inr kind ↦ inr (n, below, kind)
         ]
 
@@ -93,7 +93,7 @@ Gains-push old new x is y = (
 
 -- what is among nothing and a kind is of the kind
 pub of_none : (Kind : Integral → Type 0) (x : Integral) → IsAmong [] Kind x → Kind x
-of_none Kind x w = elim w [ | inl m ↦ absurd (omega (arith, m.1)) | inr v ↦ v ]
+of_none Kind x w = elim w [ inl m ↦ absurd (omega (arith, m.1)) | inr v ↦ v ]
 
 -- the members after all kinds
 pub Gains-all : (new : List Integral) (n m : ℕ) (Kinds : ℕ → Integral → Type 0) (Kind : Integral → Type 0) → n ≡ m → Gains [] new (IsBefore n Kinds) → ((x : Integral) → IsBefore m Kinds x ↔ Kind x) → (x : Integral) → Contains new x ↔ Kind x

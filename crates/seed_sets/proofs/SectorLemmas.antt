@@ -1,10 +1,10 @@
 -- The seeds of one spec, sector by sector.
-use Rattle.std.proofs.Common.{◌≡◌, ℕ, ◌+◌, ◌-◌, ◌<◌, ◌≤◌, Bool, true, false, ◌&&◌, not, List, [], length, Option, Some, None, min, refl, sym, ap, subst, ◌∙◌, arith}
+use Rattle.std.proofs.Common.{◌≡◌, ℕ, ◌+◌, ◌-◌, ◌<◌, ◌≤◌, Bool, true, false, ◌&&◌, not, [], Option, Some, None, refl, sym, ap, subst, ◌∙◌, arith}
 use mathlib.Core.Bool.{true≢false}
-use Rattle.std.specs.Prelude.{◌↔◌, IfSome, count_ones, bit_and, ◌==◌}
+use Rattle.std.specs.Prelude.{◌↔◌, IfSome, count_ones, bit_and}
 use Rattle.std.proofs.lemmas.Nat.{and_le_r}
 use Rattle.std.proofs.lemmas.Bool.Decides.{nat_tests}
-use Rattle.integral_index.specs.Integral.{Integral, sector_of, t_of, r_of, s_of, dots_of}
+use Rattle.integral_index.specs.Integral.{Integral, sector_of, t_of, r_of}
 use Rattle.integral_index.specs.ZeroSectors.{is_subsector, is_zero_sector}
 use Rattle.integral_index.proofs.IndexLists.{count_ones-sector_of, t_of-le-r_of}
 use Rattle.seed_sets.specs.declared.Shape.{Shape}
@@ -13,7 +13,7 @@ use Rattle.seed_sets.specs.declared.endings.Rest.{Rest}
 use Rattle.seed_sets.specs.Seeds.{IsSeed}
 use Rattle.seed_sets.specs.Gathering.{IsBefore}
 use Rattle.seed_sets.specs.Endings.{IsEnding, Continues}
-use Rattle.seed_sets.specs.Sectors.{is_wanted, IsInSector, IsOfSector, most_dots}
+use Rattle.seed_sets.specs.Sectors.{is_wanted, IsOfSector, most_dots}
 
 -- t is that of the sector
 t_is : (x : Integral) (sector : ℕ) → sector_of x.indices ≡ sector → t_of x.indices ≡ count_ones sector
@@ -49,14 +49,17 @@ module _ (spec : Spec) (shape : Shape) (sector dots : ℕ) (wanted : is_wanted s
       let e : IsEnding whole x.indices = subst (IsEnding whole) (sym h.indices) h.is_ending in
       let t = t_is x sector e.sector in
       let low = dots_within spec.d dots _ is in
-      let above = e.dots in (wanted, record {
-        family = h.same_family;
-        width_is = e.places;
-        sector_is = e.sector;
-        r = omega (arith, above, t, low, enough);
-        s = e.s;
-        dots = dots_to spec.d dots _ (r_of x.indices) (t_of x.indices) is above;
-      })
+      let above = e.dots in (
+        wanted,
+        record {
+          family = h.same_family;
+          width_is = e.places;
+          sector_is = e.sector;
+          r = omega (arith, above, t, low, enough);
+          s = e.s;
+          dots = dots_to spec.d dots _ (r_of x.indices) (t_of x.indices) is above;
+        },
+      )
 
   from : (x : Integral) → IsOfSector spec shape sector x → Continues spec.family [] whole x
   from x h =
@@ -107,12 +110,15 @@ IsSeed-sectors spec shape x = (of, within)
     within h = (
       sector_of x.indices,
       omega (arith, subsector_le (sector_of x.indices) spec.sector h.subsector),
-      ((λ i. h.subsector i && not (h.not_zero i)), record {
-        family = h.family;
-        width_is = h.width;
-        sector_is = refl;
-        r = h.r;
-        s = h.s;
-        dots = h.dots;
-      }),
+      (
+        (λ i. h.subsector i && not (h.not_zero i)),
+        record {
+          family = h.family;
+          width_is = h.width;
+          sector_is = refl;
+          r = h.r;
+          s = h.s;
+          dots = h.dots;
+        },
+      ),
     )

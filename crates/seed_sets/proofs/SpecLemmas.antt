@@ -1,5 +1,5 @@
 -- The seeds of a list of specs, spec by spec.
-use Rattle.std.proofs.Common.{◌≡◌, ℕ, ◌<◌, List, length, get_or, sym, ap, subst, ◌∙◌}
+use Rattle.std.proofs.Common.{◌≡◌, ℕ, ◌<◌, List, length, get_or, sym, subst, ◌∙◌}
 use Rattle.std.specs.Prelude.{◌↔◌, All}
 use Rattle.std.proofs.lemmas.List.{get_or_default}
 use Rattle.integral_index.specs.Integral.{Integral}
@@ -33,9 +33,9 @@ IsSeedAt-only specs shapes k d shape within fitting is x = (
     seed = h;
   },
   λ h.
-    let spec = get_or specs k d in
-    let same : h.spec ≡ spec = sym h.at_place ∙ get_or_default specs k h.spec d within in
-    let place : IsShapeOf shapes spec.family h.shape = subst (λ (s : Spec). IsShapeOf shapes s.family h.shape) same h.shaped in
-    let alike : h.shape ≡ shape = sym place.1 ∙ get_or_default shapes spec.family h.shape shape place.0 ∙ sym is in
-    subst (λ (q : Shape). IsSeed spec q x) alike (subst (λ (s : Spec). IsSeed s h.shape x) same h.seed),
+      let spec = get_or specs k d in
+      let same : h.spec ≡ spec = sym h.at_place ∙ get_or_default specs k h.spec d within in
+      let place : IsShapeOf shapes spec.family h.shape = subst (λ (s : Spec). IsShapeOf shapes s.family h.shape) same h.shaped in
+      let alike : h.shape ≡ shape = sym place.1 ∙ get_or_default shapes spec.family h.shape shape place.0 ∙ sym is in
+      subst (λ (q : Shape). IsSeed spec q x) alike (subst (λ (s : Spec). IsSeed s h.shape x) same h.seed),
 )

@@ -1,5 +1,5 @@
 -- What may stand behind the first indices of a list.
-use Rattle.std.specs.Prelude.{◌≡◌, ℕ, zero, suc, ◌+◌, ◌-◌, ◌/◌, ◌%◌, ◌==◌, ◌≤◌, Bool, true, false, ℤ, pos, negsuc, List, ◌++◌, length, if◌then◌else◌}
+use Rattle.std.specs.Prelude.{◌≡◌, ℕ, zero, suc, ◌+◌, ◌-◌, ◌/◌, ◌%◌, ◌==◌, ◌≤◌, Bool, true, false, ℤ, pos, negsuc, List, ◌++◌, length}
 use Rattle.integral_index.specs.Integral.{Integral, sector_of, t_of, r_of, s_of}
 use Rattle.seed_sets.specs.declared.endings.Rest.{Rest}
 

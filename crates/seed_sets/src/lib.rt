@@ -74,3 +74,6 @@ pub fn list(
     settle(&mut found, limit)?;
     Ok(found)
 }
+
+#[cfg(test)]
+mod tests;

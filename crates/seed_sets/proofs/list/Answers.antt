@@ -1,9 +1,8 @@
-use Rattle.std.proofs.Common.{◌≡◌, ◌<◌, ◌+◌, ℕ, [], length, refl, sym, subst, arith, get_or, ◌⊎◌, inl, inr}
-use Rattle.std.specs.Prelude.{◌↔◌, Contains}
+use Rattle.std.proofs.Common.{◌≡◌, [], length, arith}
+use Rattle.std.specs.Prelude.{Contains}
 use Rattle.std.proofs.lemmas.Result.{err_from_is_err_and}
-use Rattle.integral_index.specs.Integral.{Integral}
-use Rattle.seed_sets.specs.Seeds.{IsSeedOfSome, IsShapeOf}
-use Rattle.seed_sets.specs.Gathering.{Gains, IsAmong, IsBefore}
+use Rattle.seed_sets.specs.Seeds.{IsSeedOfSome}
+use Rattle.seed_sets.specs.Gathering.{IsAmong, IsBefore}
 use Rattle.seed_sets.proofs.GatheringLemmas.{Gains-more, Gains-same, Gains-all, of_none, IsCause-more, IsCause-same, IsCause-weaker}
 use Rattle.seed_sets.proofs.SpecLemmas.{IsSeedAt, IsSeedAt-only, IsSeedOfSome-places}
 use Rattle.seed_sets.proofs.list.Goals as goal

@@ -1,4 +1,4 @@
-use Rattle.std.proofs.Common.{◌≡◌, ◌↔◌, ℕ, ◌<◌, ◌≤◌, ◌+◌, ◌-◌, ◌∷◌, [], ◌++◌, take, length, List, ℤ, pos, sym, ap, subst, ◌∙◌, arith, to_z, of_z, w8, set}
+use Rattle.std.proofs.Common.{◌≡◌, ℕ, ◌<◌, ◌-◌, ◌∷◌, [], ◌++◌, take, length, List, ℤ, sym, ap, subst, ◌∙◌, arith, to_z, of_z, w8}
 use Rattle.std.proofs.lemmas.Int.{ints}
 use Rattle.std.proofs.lemmas.List.Elements.{All-push}
 use Rattle.std.proofs.lemmas.Result.{err_from_is_err_and, on_ok_weaker, IfErr-weaker}
@@ -6,8 +6,7 @@ use Rattle.std.specs.List.{All}
 use Rattle.integral_index.specs.Integral.{Integral, IsIndex}
 use Rattle.seed_sets.specs.declared.endings.Rest.{Rest}
 use Rattle.seed_sets.specs.Endings.{Continues, choices, index_at, after}
-use Rattle.seed_sets.specs.Seeds.{IsCause}
-use Rattle.seed_sets.specs.Gathering.{Gains, IsAmong, IsBefore}
+use Rattle.seed_sets.specs.Gathering.{Gains, IsBefore}
 use Rattle.seed_sets.proofs.EndingLemmas.{Continues-made, Continues-step, Continues-along, first_more, IsIndex-at, IsWithin, IsWithin-after, after-places}
 use Rattle.seed_sets.proofs.GatheringLemmas.{Gains-same, Gains-more, IsCause-same, IsCause-more}
 use Rattle.seed_sets.proofs.endings.+extend.Goals as goal
@@ -33,16 +32,26 @@ extend-requires t c =
     let some : 0 < c.args.rest.places = omega arith in
     let places : c.after.result.places ≡ c.args.rest.places - 1 = ap (λ (r : Rest). r.places) c.after.ensures ∙ after-places c.args.rest c.loop-step.step in
     let within : IsWithin c.after.result =
-        subst IsWithin (sym c.after.ensures) (IsWithin-after c.args.rest some (record { sector = c.requires.sector; dots = c.requires.dots; s = c.requires.s }) c.loop-step.step) in
+    subst IsWithin (sym c.after.ensures) (IsWithin-after c.args.rest some (record { sector = c.requires.sector; dots = c.requires.dots; s = c.requires.s }) c.loop-step.step) in
     let value : to_z w8 (of_z w8 c.index.result) ≡ c.index.result = omega (arith, ints) in
     let room : c.args.place < length c.args.indices = omega arith in
     let first = first_more c.args.indices c.args.place _ _ room (value ∙ c.index.ensures) in
     let below : c.loop-step.step < choices c.args.rest = omega arith in
     let index = IsIndex-at c.args.rest c.requires.dots c.requires.s c.loop-step.step below in (
       omega (arith, places),
-      (omega arith, (omega (arith, places), (omega (arith, places), (
-        subst (λ (xs : List ℤ). All IsIndex xs) (sym first) (All-push IsIndex (take c.args.place c.args.indices) (index_at c.args.rest c.loop-step.step) c.requires.chosen index),
-        (within.sector, (within.dots, within.s))))))
+      (
+        omega arith,
+        (
+          omega (arith, places),
+          (
+            omega (arith, places),
+            (
+              subst (λ (xs : List ℤ). All IsIndex xs) (sym first) (All-push IsIndex (take c.args.place c.args.indices) (index_at c.args.rest c.loop-step.step) c.requires.chosen index),
+              (within.sector, (within.dots, within.s)),
+            ),
+          ),
+        ),
+      ),
     )
 
 pub loop-step-preserved : goal.loop-step-preserved

@@ -1,4 +1,4 @@
-use Rattle.std.proofs.Common.{◌≡◌, true, false, sym, ◌∙◌}
+use Rattle.std.proofs.Common.{sym, ◌∙◌}
 use Rattle.std.proofs.lemmas.Result.{on_ok_weaker, IfErr-weaker}
 use Rattle.seed_sets.specs.Sectors.{IsOfSector}
 use Rattle.seed_sets.proofs.GatheringLemmas.{Gains-nothing, Gains-same, IsCause-same}
