@@ -1,8 +1,7 @@
 -- The products of the independent external momenta, which are numbered from 1. The project's own.
-use Rattle.std.specs.Prelude.{◌≡◌, ℕ, zero, suc, ◌+◌, ◌-◌, ◌≤◌, min, max, List, slice_index, refl}
-use Rattle.std.specs.Coded.{Coded, code_by, coded×, coded_ℕ, coded_List}
+use Rattle.std.specs.Prelude.{◌≡◌, ℕ, zero, suc, ◌+◌, ◌-◌, ◌<◌, ◌≤◌, min, max, List, length, slice_index, All, refl}
+use Rattle.std.specs.Coded.{Coded, code_by, coded×, coded_ℕ, coded_list}
 use Rattle.field_word.specs.Residues.{IsModulus}
-use Rattle.matrix_elimination.specs.Vectors.{IsVector}
 
 -- The products stand in the order (1,1), (1,2), .., (1,E), (2,2), ..
 pub record Point : Type 0 where
@@ -13,8 +12,8 @@ pub record Point : Type 0 where
 -- a point is stored as the fields of it
 abbrev pub point_code : Coded Point
 point_code =
-    code_by (ℕ × ℕ × List ℕ) (coded× coded_ℕ (coded× coded_ℕ (coded_List coded_ℕ)))
-    (λ point. (point.modulus, point.externals, point.products)) (λ t. record { modulus = t.0; externals = t.1; products = t.2 }) (λ _. refl)
+    code_by (ℕ × (ℕ × List ℕ)) (coded× coded_ℕ (coded× coded_ℕ (coded_list coded_ℕ)))
+    (λ point. (point.modulus, (point.externals, point.products))) (λ t. record { modulus = t.0; externals = t.1.0; products = t.1.1 }) (λ _. refl)
 
 -- how many products there are of this many momenta
 abbrev pub product_count : ℕ → ℕ
@@ -22,8 +21,9 @@ product_count zero = 0
 product_count (suc externals) = suc externals + product_count externals
 
 -- a table of the products of this many momenta: one residue for each
-abbrev pub IsTable : ℕ → ℕ → List ℕ → Type 0
-IsTable p externals products = IsVector p (product_count externals) products
+pub record IsTable (p externals : ℕ) (products : List ℕ) : Type 0 where
+  pub size : length products ≡ product_count externals
+  pub below : All (λ product. product < p) products
 
 -- How many products stand before that of the momenta x ≤ y, counted from 0: those of the first momentum,
 -- of which each momentum gives one, and then those of the others.

@@ -47,6 +47,7 @@ pub record IsCancelled (p : ℕ) (rows : List (List ℕ)) (multipliers : List �
 -- its column, and of the cancelled multipliers, by some weights.
 pub record IsBacked (p : ℕ) (rows : List (List ℕ)) (e : Eliminated) (j : ℕ) : Type 0 where
   pub weights : List ℕ
+  pub size : length weights ≡ length e.cancelled.items
   pub is : (i : ℕ) → i < length rows → unit_at j i ≡ (dot (slice_index_or rows j []) (multipliers_at i e.solved.items) + dot weights (column i e.cancelled.items)) % p
 
 -- The elimination of the rows of a matrix, each of this width: the rows and what is solved have the same
