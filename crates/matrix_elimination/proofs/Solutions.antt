@@ -12,7 +12,7 @@ use Rattle.matrix_elimination.specs.Elimination.{entry_at, multiplier_at, entrie
 use Rattle.matrix_elimination.specs.Systems.{IsSolution, IsOnlySolution, IsOpen}
 use Rattle.matrix_elimination.specs.Solutions.{unknown_at, solution_of, open_entry}
 use Rattle.matrix_elimination.proofs.Congruences.{sums, multiples, cancel, opposites}
-use Rattle.matrix_elimination.proofs.Weights.{weigh, dot-weigh, dot-comm, weigh-same, weigh-equal, weigh-add, weigh-unit, weigh-none, weigh-turn, column-at, unit_at-here, unit_at-other}
+use Rattle.matrix_elimination.proofs.Weights.{weigh, dot-weigh, dot-comm, weigh-same, weigh-equal, weigh-add, weigh-unit, weigh-none, weigh-turn, dot-columns, column-at, unit_at-here, unit_at-other}
 use Rattle.matrix_elimination.proofs.Reducing.{entries_at-at, multipliers_at-at}
 use Rattle.matrix_elimination.proofs.Taking.{entry_below}
 
@@ -103,10 +103,7 @@ forced p width rows values other e large is closed vector solution c s has =
     let entries : weigh other (unit_at c) % p ≡ weigh other (λ x. dot s.multipliers (column x rows)) % p =
     weigh-same p other (unit_at c) (λ x. dot s.multipliers (column x rows)) (λ x h.
     ap (λ n. n % p) (sym (own_entry p width rows e is closed c s has x (omega (arith, solution.vector.size))) ∙ (is.solved c s has).is_sum x) ∙ mod-mod _ p) in
-    let turn : weigh other (λ x. dot s.multipliers (column x rows)) ≡ weigh s.multipliers (λ j. dot (get_or rows j []) other) =
-    weigh-equal other (λ x. dot s.multipliers (column x rows)) (λ x. weigh s.multipliers (λ j. get_or (get_or rows j []) x 0)) (λ x _. dot-weigh s.multipliers (column x rows) ∙ weigh-equal s.multipliers (λ j. get_or (column x rows) j 0) (λ j. get_or (get_or rows j []) x 0) (λ j _. column-at x rows j))
-    ∙ weigh-turn other s.multipliers (λ x j. get_or (get_or rows j []) x 0)
-    ∙ weigh-equal s.multipliers (λ j. weigh other (λ x. get_or (get_or rows j []) x 0)) (λ j. dot (get_or rows j []) other) (λ j _. sym (turned (get_or rows j []) other)) in
+    let turn = dot-columns other s.multipliers rows in
     let met : weigh s.multipliers (λ j. dot (get_or rows j []) other) % p ≡ weigh s.multipliers (λ j. get_or values j 0) % p =
     weigh-same p s.multipliers (λ j. dot (get_or rows j []) other) (λ j. get_or values j 0) (λ j h.
     sym (mod-mod _ p) ∙ ap (λ n. n % p) (solution.meets j (omega (arith, (is.solved c s has).multipliers.size)))) in

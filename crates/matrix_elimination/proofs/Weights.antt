@@ -149,3 +149,10 @@ dot-take-min xs ys c h =
 pub dot-take-add : (p : ℕ) (xs ys : List ℕ) (c : ℕ) → (dot (take c xs) ys % p + (get_or xs c 0 * get_or ys c 0) % p) % p ≡ dot (take (c + 1) xs) ys % p
 dot-take-add p xs ys c =
     sym (add-mod (dot (take c xs) ys) (get_or xs c 0 * get_or ys c 0) p) ∙ ap (λ n. n % p) (sym (ap (λ n. dot (take n xs) ys) (add-one c) ∙ dot-take-suc xs ys c))
+
+-- the rows' products with a vector, weighed, are the columns' sums, weighed by the vector
+pub dot-columns : (vector multipliers : List ℕ) (rows : List (List ℕ)) → weigh vector (λ x. dot multipliers (column x rows)) ≡ weigh multipliers (λ j. dot (get_or rows j []) vector)
+dot-columns vector multipliers rows =
+    weigh-equal vector (λ x. dot multipliers (column x rows)) (λ x. weigh multipliers (λ j. get_or (get_or rows j []) x 0)) (λ x _. dot-weigh multipliers (column x rows) ∙ weigh-equal multipliers (λ j. get_or (column x rows) j 0) (λ j. get_or (get_or rows j []) x 0) (λ j _. column-at x rows j))
+    ∙ weigh-turn vector multipliers (λ x j. get_or (get_or rows j []) x 0)
+    ∙ weigh-equal multipliers (λ j. weigh vector (λ x. get_or (get_or rows j []) x 0)) (λ j. dot (get_or rows j []) vector) (λ j _. sym (dot-comm (get_or rows j []) vector ∙ dot-weigh vector (get_or rows j [])))
