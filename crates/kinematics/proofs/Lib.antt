@@ -18,3 +18,4 @@ pub mod OutcomeLemmas
 pub mod PlaceLemmas
 pub mod Expansion
 pub mod RuleSystems
+pub mod RefusedRules

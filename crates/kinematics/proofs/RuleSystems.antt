@@ -16,7 +16,7 @@ use Rattle.kinematics.specs.RuleRows.{row_of, rule_row_of, FaultGives}
 use Rattle.kinematics.proofs.Expansion.{length-row_of, below-row_of, dot-row_of}
 
 -- read past the end of a list of rules
-no_rule : Rule
+pub no_rule : Rule
 no_rule = record { left = []; right = []; value = 0 }
 
 pub IsVector-rule_row : (p e : ℕ) (rule : Rule) → IsRule p e rule → IsVector p (product_count e) (rule_row_of p rule)

@@ -17,3 +17,4 @@ pub mod Points
 pub mod KeptPoint
 pub mod Rules
 pub mod RuleRows
+pub mod RuleLaws

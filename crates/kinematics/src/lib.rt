@@ -18,7 +18,9 @@ mod value_reader;
 
 pub use expressions::Expression;
 pub use faults::{TextError, TextFault, TextKind, ValueFault};
-pub use laws::{printed_momentum_reads_back, readings_are_unique, values_are_unique};
+pub use laws::{
+    printed_momentum_reads_back, readings_are_unique, refused_rules_have_no_point, values_are_unique,
+};
 pub use momenta::Momentum;
 pub use momentum_reader::read_momentum;
 pub use names::Name;
@@ -27,5 +29,7 @@ pub use rule_rows::residue;
 pub use rules::{PointFault, Rule, point};
 pub use value_reader::read_value;
 
+#[cfg(test)]
+mod point_tests;
 #[cfg(test)]
 mod tests;
