@@ -1,4 +1,4 @@
-//! Names, momenta and expressions of the input, and their values.
+//! Names, momenta and expressions of the input, their values, and the point of kinematic rules.
 #![tactic(auto)]
 
 mod evaluation;

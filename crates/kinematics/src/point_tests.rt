@@ -9,8 +9,8 @@ use std::alloc::Global;
 use std::test::Fail;
 
 fn momentum(alloc: Global, coefficients: &[i16]) -> Result<Momentum, Fail> {
-    for coefficient in coefficients {
-        if *coefficient < -1000 || 1000 < *coefficient {
+    for place in 0..coefficients.len() {
+        if coefficients[place] < -1000 || 1000 < coefficients[place] {
             return Err("a coefficient is out of range")?;
         }
     }
@@ -43,8 +43,8 @@ fn is_rule(rule: &Rule, externals: u32, modulus: &Modulus) -> bool
 fn are_rules(rules: &[Rule], externals: u32, modulus: &Modulus) -> bool
     ensures { IsTrue result → All (IsRule modulus.now externals) rules.now }
 {
-    for rule in rules {
-        if !is_rule(rule, externals, modulus) {
+    for place in 0..rules.len() {
+        if !is_rule(&rules[place], externals, modulus) {
             return false;
         }
     }

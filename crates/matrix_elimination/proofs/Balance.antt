@@ -1,14 +1,14 @@
 -- Sums of multiples of rows: their entries are those of the rows, as often as the multipliers say.
-use Rattle.std.proofs.Common.{◌≡◌, ◌≢◌, ℕ, zero, suc, ◌+◌, ◌-◌, ◌*◌, ◌%◌, ◌<◌, ◌≤◌, List, [], ◌∷◌, length, map, get_or, Option, Some, None, refl, sym, ap, ◌∙◌, arith}
+use Rattle.std.proofs.Common.{◌≡◌, ℕ, ◌+◌, ◌*◌, ◌%◌, ◌<◌, List, [], length, get_or, Option, Some, None, refl, sym, ap, ◌∙◌, arith}
 use Rattle.std.proofs.Math.Nat.{mod-eq_of_lt, mod-mod}
-use Rattle.std.proofs.lemmas.Nat.{mul-mod_first, mul-mod_second}
+use Rattle.std.proofs.lemmas.Nat.{mul-mod_second}
 use Rattle.std.proofs.lemmas.List.{length-map}
 use Rattle.matrix_elimination.specs.declared.elimination.Solved.{Solved}
-use Rattle.matrix_elimination.specs.Vectors.{dot, column, unit_at, IsVector}
+use Rattle.matrix_elimination.specs.Vectors.{dot, column, unit_at}
 use Rattle.matrix_elimination.specs.Elimination.{entry_at, multiplier_at, entries_at, multipliers_at, HasSum}
-use Rattle.matrix_elimination.specs.Steps.{IsWithMultiple, IsMultiple, IsSum, IsRest}
-use Rattle.matrix_elimination.proofs.Congruences.{sums, multiples, cancel, with_multiple, with_multiple_of_residues}
-use Rattle.matrix_elimination.proofs.Weights.{weigh, dot-weigh, dot-comm, dot-nil, weigh-same, weigh-equal, weigh-add, weigh-scale, weigh-unit, weigh-turn, weigh-none, column-at}
+use Rattle.matrix_elimination.specs.Steps.{IsWithMultiple, IsMultiple, IsRest}
+use Rattle.matrix_elimination.proofs.Congruences.{sums, cancel, with_multiple, with_multiple_of_residues}
+use Rattle.matrix_elimination.proofs.Weights.{weigh, dot-weigh, dot-comm, weigh-same, weigh-equal, weigh-add, weigh-scale, weigh-unit, weigh-turn, weigh-none, column-at}
 use Rattle.matrix_elimination.proofs.Reducing.{entries_at-at, multipliers_at-at}
 
 -- the entries of a sum are those of the rows by its multipliers

@@ -1,15 +1,15 @@
 -- A row of which nothing is left.
-use Rattle.std.proofs.Common.{◌≡◌, ℕ, ◌+◌, ◌*◌, ◌%◌, ◌<◌, ◌≤◌, List, [], ◌∷◌, ◌++◌, length, map, get_or, replicate, All, Option, None, is_some, count_by, refl, sym, ap, ◌∙◌, subst, arith, add-zero, zero-add, inl, inr}
+use Rattle.std.proofs.Common.{◌≡◌, ℕ, ◌+◌, ◌*◌, ◌%◌, ◌<◌, ◌≤◌, List, [], ◌∷◌, ◌++◌, length, map, get_or, replicate, All, None, is_some, count_by, sym, ap, ◌∙◌, subst, arith, add-zero, zero-add, inl, inr}
 use Rattle.std.proofs.Math.Nat.{one-mul, zero-mul}
 use Rattle.std.proofs.lemmas.Bool.{cases_eq}
 use Rattle.std.proofs.lemmas.List.{map-append, length-map, length-replicate, length-append}
 use Rattle.std.proofs.lemmas.List.Elements.{All-push}
 use Rattle.matrix_elimination.specs.declared.elimination.Solved.{Solved}
 use Rattle.matrix_elimination.specs.declared.elimination.Eliminated.{Eliminated}
-use Rattle.matrix_elimination.specs.Vectors.{dot, column, unit_at, IsVector}
+use Rattle.matrix_elimination.specs.Vectors.{dot, column}
 use Rattle.matrix_elimination.specs.Elimination.{entries_at, multipliers_at, IsSolved, IsCancelled, IsBacked}
 use Rattle.matrix_elimination.specs.Steps.{IsPartial}
-use Rattle.matrix_elimination.proofs.Weights.{dot-append, dot-zeros, dot-nil, unit_at-here, unit_at-other}
+use Rattle.matrix_elimination.proofs.Weights.{dot-append, dot-zeros, unit_at-here, unit_at-other}
 use Rattle.matrix_elimination.proofs.Taking.{IsTaking, first_multipliers}
 
 is_cancelled : (p width : ℕ) (rows : List (List ℕ)) (place : ℕ) (e : Eliminated) (sum : Solved) → IsTaking p width rows place e sum → ((x : ℕ) → get_or sum.entries x 0 ≡ 0) → IsCancelled p rows sum.multipliers

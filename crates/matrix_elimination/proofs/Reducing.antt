@@ -1,10 +1,10 @@
 -- A row's sum without what is solved.
-use Rattle.std.proofs.Common.{◌≡◌, ℕ, zero, suc, ◌+◌, ◌-◌, ◌*◌, ◌%◌, ◌<◌, ◌≤◌, List, [], ◌∷◌, length, map, get_or, take, Option, Some, None, refl, sym, ap, ◌∙◌, arith, add-zero}
+use Rattle.std.proofs.Common.{◌≡◌, ℕ, zero, suc, ◌+◌, ◌*◌, ◌%◌, ◌<◌, ◌≤◌, List, [], ◌∷◌, length, get_or, take, Option, Some, None, refl, sym, ap, ◌∙◌, add-zero}
 use Rattle.std.proofs.Math.Nat.{mul-zero}
 use Rattle.std.proofs.Math.Numerals.{add-one}
 use Rattle.field_word.specs.Residues.{opposite_of}
 use Rattle.matrix_elimination.specs.declared.elimination.Solved.{Solved}
-use Rattle.matrix_elimination.specs.Vectors.{dot, IsVector}
+use Rattle.matrix_elimination.specs.Vectors.{dot}
 use Rattle.matrix_elimination.specs.Elimination.{entry_at, multiplier_at, entries_at, multipliers_at}
 use Rattle.matrix_elimination.specs.Steps.{IsWithMultiple, IsSum, IsRest}
 use Rattle.matrix_elimination.proofs.Congruences.{subtracted}

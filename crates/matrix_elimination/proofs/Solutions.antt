@@ -1,17 +1,16 @@
 -- What an elimination says of the solutions of a linear system.
-use Rattle.std.proofs.Common.{◌≡◌, ◌≢◌, ℕ, zero, suc, ◌+◌, ◌-◌, ◌*◌, ◌%◌, ◌<◌, ◌≤◌, List, [], ◌∷◌, length, map, get_or, All, Option, Some, None, IfSome, refl, sym, ap, ◌∙◌, subst, arith, add-zero, zero-add, inl, inr}
-use Rattle.std.proofs.Math.Nat.{mod-eq_of_lt, mod-mod, zero-mod, mod-lt, mul-zero, mod_self}
-use Rattle.std.proofs.lemmas.Bool.{cases_eq, cases_lt}
-use Rattle.std.proofs.lemmas.List.{length-map, get_or_past, get_or_default}
+use Rattle.std.proofs.Common.{◌≡◌, ◌≢◌, ℕ, zero, suc, ◌+◌, ◌-◌, ◌%◌, ◌<◌, List, [], ◌∷◌, length, get_or, All, Option, Some, None, IfSome, refl, sym, ap, ◌∙◌, subst, arith, add-zero, zero-add, inl, inr}
+use Rattle.std.proofs.Math.Nat.{mod-eq_of_lt, mod-mod, zero-mod, mod-lt, mod_self}
+use Rattle.std.proofs.lemmas.Bool.{cases_eq}
+use Rattle.std.proofs.lemmas.List.{length-map, get_or_default}
 use Rattle.std.proofs.lemmas.Grind.{same_number_lists}
-use Rattle.field_word.specs.Residues.{opposite_of}
 use Rattle.matrix_elimination.specs.declared.elimination.Solved.{Solved}
 use Rattle.matrix_elimination.specs.declared.elimination.Eliminated.{Eliminated}
-use Rattle.matrix_elimination.specs.Vectors.{dot, column, unit_at, IsVector, HasLeadingOne}
-use Rattle.matrix_elimination.specs.Elimination.{entry_at, multiplier_at, entries_at, multipliers_at, HasSum, IsSolved, IsElimination}
+use Rattle.matrix_elimination.specs.Vectors.{dot, column, unit_at, IsVector}
+use Rattle.matrix_elimination.specs.Elimination.{entry_at, multiplier_at, entries_at, multipliers_at, HasSum, IsElimination}
 use Rattle.matrix_elimination.specs.Systems.{IsSolution, IsOnlySolution, IsOpen}
 use Rattle.matrix_elimination.specs.Solutions.{unknown_at, solution_of, open_entry}
-use Rattle.matrix_elimination.proofs.Congruences.{sums, multiples, cancel, opposites}
+use Rattle.matrix_elimination.proofs.Congruences.{sums, cancel, opposites}
 use Rattle.matrix_elimination.proofs.Weights.{weigh, dot-weigh, dot-comm, weigh-same, weigh-equal, weigh-add, weigh-unit, weigh-none, weigh-turn, dot-columns, column-at, unit_at-here, unit_at-other}
 use Rattle.matrix_elimination.proofs.Reducing.{entries_at-at, multipliers_at-at}
 use Rattle.matrix_elimination.proofs.Taking.{entry_below}

@@ -1,18 +1,17 @@
 -- A row of which something is left, which solves a column.
-use Rattle.std.proofs.Common.{◌≡◌, ◌≢◌, ℕ, zero, suc, ◌+◌, ◌-◌, ◌*◌, ◌%◌, ◌<◌, ◌≤◌, Bool, true, false, cond, List, [], ◌∷◌, length, get_or, replicate, All, Option, Some, None, is_some, count_by, refl, sym, ap, ◌∙◌, subst, arith, add-zero, zero-add, inl, inr}
-use Rattle.std.proofs.Math.Nat.{mod-eq_of_lt, mod-mod, zero-mod, mod-lt, mul_comm, mul-zero, zero-mul, mul-one, mul-add, add-mod-mod, suc-ne-zero, mod_self}
-use Rattle.std.proofs.lemmas.Nat.{mul-mod_first, mul-mod_second}
+use Rattle.std.proofs.Common.{◌≡◌, ◌≢◌, ℕ, zero, suc, ◌+◌, ◌-◌, ◌*◌, ◌%◌, ◌<◌, ◌≤◌, true, false, cond, List, [], ◌∷◌, length, get_or, replicate, All, Option, Some, None, is_some, count_by, refl, sym, ap, ◌∙◌, subst, arith, add-zero, zero-add, inl, inr}
+use Rattle.std.proofs.Math.Nat.{mod-eq_of_lt, mod-mod, zero-mod, mul_comm, mul-zero, zero-mul, mul-one, mul-add, add-mod-mod, suc-ne-zero, mod_self}
 use Rattle.std.proofs.lemmas.Bool.{cases_eq, cases_lt}
 use Rattle.std.proofs.lemmas.List.{length-replicate}
 use Rattle.std.proofs.lemmas.List.Sums.{sum_by-cons}
-use Rattle.field_word.specs.Residues.{opposite_of, IsInverse}
+use Rattle.field_word.specs.Residues.{opposite_of}
 use Rattle.matrix_elimination.specs.declared.elimination.Solved.{Solved}
 use Rattle.matrix_elimination.specs.declared.elimination.Eliminated.{Eliminated}
-use Rattle.matrix_elimination.specs.Vectors.{dot, column as column_of, unit_at, IsVector}
+use Rattle.matrix_elimination.specs.Vectors.{dot, column as column_of, unit_at}
 use Rattle.matrix_elimination.specs.Elimination.{entry_at, multiplier_at, entries_at, multipliers_at, HasSum, IsSolved, IsCancelled, IsBacked}
-use Rattle.matrix_elimination.specs.Steps.{IsWithMultiple, IsMultiple, IsSum, IsCleared, Solves, IsPartial}
+use Rattle.matrix_elimination.specs.Steps.{IsWithMultiple, IsCleared, Solves, IsPartial}
 use Rattle.matrix_elimination.proofs.Congruences.{sums, multiples, cancel, opposites, subtracted, undone}
-use Rattle.matrix_elimination.proofs.Weights.{weigh, dot-weigh, dot-zeros, weigh-same, weigh-equal, weigh-add, weigh-scale, weigh-unit, unit_at-here, unit_at-other}
+use Rattle.matrix_elimination.proofs.Weights.{weigh, dot-weigh, dot-zeros, weigh-same, weigh-add, weigh-scale, weigh-unit, unit_at-here, unit_at-other}
 use Rattle.matrix_elimination.proofs.Reducing.{entries_at-at, multipliers_at-at}
 use Rattle.matrix_elimination.proofs.Balance.{IsBalanced, IsBalanced-with_multiple, IsBalanced-multiple}
 use Rattle.matrix_elimination.proofs.Taking.{IsTaking, entry_below, vanishes, first_multipliers}

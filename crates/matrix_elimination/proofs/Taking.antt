@@ -1,6 +1,6 @@
 -- A row that is taken: what is left of it once all that is solved was subtracted.
-use Rattle.std.proofs.Common.{◌≡◌, ◌≢◌, ℕ, ◌+◌, ◌-◌, ◌*◌, ◌%◌, ◌<◌, ◌≤◌, List, [], length, get_or, All, Option, Some, None, refl, sym, ap, ◌∙◌, subst, arith, add-zero, ◌⊎◌, inl, inr}
-use Rattle.std.proofs.Math.Nat.{mod-eq_of_lt, mod-mod, zero-mod, mod-lt}
+use Rattle.std.proofs.Common.{◌≡◌, ◌≢◌, ℕ, ◌+◌, ◌%◌, ◌<◌, List, [], length, get_or, All, Option, Some, None, refl, sym, ap, ◌∙◌, subst, arith, add-zero, inl, inr}
+use Rattle.std.proofs.Math.Nat.{mod-eq_of_lt, zero-mod}
 use Rattle.std.proofs.lemmas.Bool.{cases_eq, cases_lt}
 use Rattle.std.proofs.lemmas.List.{get_or_past}
 use Rattle.matrix_elimination.specs.declared.elimination.Solved.{Solved}
@@ -9,7 +9,7 @@ use Rattle.matrix_elimination.specs.Vectors.{dot, column, unit_at, IsVector}
 use Rattle.matrix_elimination.specs.Elimination.{entry_at, multiplier_at, entries_at, multipliers_at, HasSum, IsSolved}
 use Rattle.matrix_elimination.specs.Steps.{IsSum, AreSums, IsRest, IsPartial}
 use Rattle.matrix_elimination.proofs.Congruences.{cancel}
-use Rattle.matrix_elimination.proofs.Weights.{weigh, dot-weigh, weigh-equal, weigh-unit, weigh-none, unit_at-here, unit_at-other}
+use Rattle.matrix_elimination.proofs.Weights.{dot-weigh, weigh-equal, weigh-unit, weigh-none, unit_at-here, unit_at-other}
 use Rattle.matrix_elimination.proofs.Reducing.{entries_at-at, multipliers_at-at, IsSum-resized}
 use Rattle.matrix_elimination.proofs.Balance.{IsBalanced, IsBalanced-unit, IsBalanced-rest}
 

@@ -1,6 +1,6 @@
 -- Sums of products: `dot` of two lists as the sum of the entries of the first, weighted by a function of
 -- their places. All lemmas on `dot` are read off from those on `weigh`.
-use Rattle.std.proofs.Common.{◌≡◌, ◌≢◌, ℕ, zero, suc, ◌+◌, ◌*◌, ◌%◌, ◌<◌, ◌≤◌, List, [], ◌∷◌, ◌++◌, length, map, get_or, take, replicate, min, inl, inr, refl, sym, ap, ◌∙◌, arith, zero-add, add-zero, add_assoc}
+use Rattle.std.proofs.Common.{◌≡◌, ◌≢◌, ℕ, zero, suc, ◌+◌, ◌*◌, ◌%◌, ◌<◌, ◌≤◌, List, [], ◌∷◌, ◌++◌, length, get_or, take, replicate, min, inl, inr, refl, sym, ap, ◌∙◌, arith, zero-add, add-zero, add_assoc}
 use Rattle.std.proofs.Math.Nat.{mul-add, mul_comm, mul_assoc, mul-zero, mul-one, zero-mul, suc-ne-zero, add-mod}
 use Rattle.std.proofs.lemmas.Bool.Decides.{nat_tests}
 use Rattle.std.proofs.Math.Numerals.{add-one}

@@ -1,4 +1,4 @@
-ghost use Rattle.std.specs.Prelude.{All, IsTrue};
+ghost use Rattle.std.specs.Prelude.{◌<◌, All, IsTrue};
 ghost use Rattle.matrix_elimination.specs.Vectors.{IsVector};
 
 use super::*;
@@ -18,8 +18,8 @@ fn are_residues(entries: &[u64], modulus: &Modulus) -> bool
     ensures { IsTrue result → All (λ x. x < modulus.now) entries.now }
 {
     let p = modulus.value();
-    for entry in entries {
-        if *entry >= p {
+    for place in 0..entries.len() {
+        if entries[place] >= p {
             return false;
         }
     }
@@ -29,8 +29,9 @@ fn are_residues(entries: &[u64], modulus: &Modulus) -> bool
 fn are_rows(rows: &[Vector], width: usize, modulus: &Modulus) -> bool
     ensures { IsTrue result → All (IsVector modulus.now width) rows.now }
 {
-    for row in rows {
-        if row.entries().len() != width || !are_residues(row.entries(), modulus) {
+    for place in 0..rows.len() {
+        let entries = rows[place].entries();
+        if entries.len() != width || !are_residues(entries, modulus) {
             return false;
         }
     }

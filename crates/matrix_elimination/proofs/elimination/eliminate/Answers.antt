@@ -1,4 +1,4 @@
-use Rattle.std.proofs.Common.{◌≤◌, length, arith}
+use Rattle.std.proofs.Common.{arith}
 use Rattle.matrix_elimination.proofs.Ends.{partial_open, elimination_of}
 use Rattle.matrix_elimination.proofs.elimination.eliminate.Goals as goal
 

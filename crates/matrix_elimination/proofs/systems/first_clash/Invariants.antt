@@ -1,4 +1,4 @@
-use Rattle.std.proofs.Common.{◌≡◌, ℕ, ◌<◌, ◌%◌, List, []}
+use Rattle.std.proofs.Common.{◌≡◌, ℕ, ◌<◌, ◌%◌, List}
 use Rattle.std.specs.List.{slice_index_or}
 use Rattle.matrix_elimination.specs.Vectors.{dot}
 use Rattle.matrix_elimination.proofs.systems.first_clash.Given as goal

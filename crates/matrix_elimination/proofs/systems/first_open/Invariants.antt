@@ -1,4 +1,4 @@
-use Rattle.std.proofs.Common.{◌≡◌, ◌≢◌, ℕ, ◌<◌, Option, None}
+use Rattle.std.proofs.Common.{◌≢◌, ℕ, ◌<◌, Option, None}
 use Rattle.std.specs.List.{slice_index_or}
 use Rattle.matrix_elimination.specs.declared.elimination.Solved.{Solved}
 use Rattle.matrix_elimination.proofs.systems.first_open.Given as goal

@@ -1,4 +1,4 @@
-use Rattle.std.proofs.Common.{◌≡◌, ◌≢◌, ◌%◌, ℕ, List, All, Option, None, length, get_or, sym, ap, ◌∙◌, subst, arith}
+use Rattle.std.proofs.Common.{◌≡◌, ◌≢◌, ◌%◌, All, Option, None, length, get_or, sym, ap, ◌∙◌, subst, arith}
 use Rattle.matrix_elimination.specs.declared.elimination.Solved.{Solved}
 use Rattle.matrix_elimination.specs.Vectors.{IsVector, dot}
 use Rattle.matrix_elimination.specs.Systems.{IsOnlySolution}

@@ -4,7 +4,6 @@ use Rattle.field_word.specs.Residues.{IsInverse}
 use Rattle.matrix_elimination.specs.declared.elimination.Solved.{Solved}
 use Rattle.matrix_elimination.specs.Steps.{IsCleared}
 use Rattle.matrix_elimination.proofs.Reducing.{IsSum-resized}
-use Rattle.matrix_elimination.proofs.Balance.{IsBalanced}
 use Rattle.matrix_elimination.proofs.elimination.Eliminated.solve.Goals as goal
 
 pub clear-requires-clause-sums : goal.clear-requires-clause-sums

@@ -1,10 +1,8 @@
-use Rattle.std.proofs.Common.{◌≡◌, ◌<◌, ◌≤◌, ◌+◌, ℕ, List, [], All, length, Option, Some, None, get_or, refl, sym, ap, ◌∙◌, subst, arith}
+use Rattle.std.proofs.Common.{◌<◌, ◌+◌, [], length, get_or, refl, sym, ap, ◌∙◌, subst, arith}
 use Rattle.std.proofs.lemmas.List.{get_or_read}
 use Rattle.matrix_elimination.specs.declared.elimination.Solved.{Solved}
 use Rattle.matrix_elimination.specs.Vectors.{IsVector}
-use Rattle.matrix_elimination.specs.Steps.{IsSum, Solves}
-use Rattle.matrix_elimination.proofs.Reducing.{IsSum-resized}
-use Rattle.matrix_elimination.proofs.Taking.{IsTaking, taking_row, column_sums, opens}
+use Rattle.matrix_elimination.proofs.Taking.{taking_row, column_sums, opens}
 use Rattle.matrix_elimination.proofs.Cancelling.{partial_cancelled}
 use Rattle.matrix_elimination.proofs.Solving.{partial_solved}
 use Rattle.matrix_elimination.proofs.elimination.Eliminated.take_row.Goals as goal

@@ -1,4 +1,4 @@
-use Rattle.std.proofs.Common.{◌≡◌, ◌*◌, ◌+◌, ◌<◌, length, take, get_or, None, Some, arith, sym, ap, ◌∙◌, subst, rules}
+use Rattle.std.proofs.Common.{◌+◌, ◌<◌, length, take, None, arith, sym, ◌∙◌, subst}
 use Rattle.std.proofs.lemmas.List.{get_or_read}
 use Rattle.matrix_elimination.specs.declared.elimination.Solved.{Solved}
 use Rattle.matrix_elimination.specs.Steps.{IsWithMultiple, IsSum, IsRest}
