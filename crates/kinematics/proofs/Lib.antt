@@ -15,3 +15,7 @@ pub mod LawLemmas
 pub mod PrintedTokens
 pub mod PrintedMomenta
 pub mod OutcomeLemmas
+pub mod PlaceLemmas
+pub mod Expansion
+pub mod RuleSystems
+pub mod RefusedRules

@@ -13,3 +13,8 @@ pub mod Evaluation
 pub mod Execution
 pub mod Laws
 pub mod Printed
+pub mod Points
+pub mod KeptPoint
+pub mod Rules
+pub mod RuleRows
+pub mod RuleLaws
