@@ -33,16 +33,22 @@ alone false true = refl
 alone false false = refl
 
 either : (a b c d : Bool) → (a ≡ true → c ≡ true → ⊥) → cond ((a && b) || (c && d)) 1 0 ≡ cond a 1 0 * cond b 1 0 + cond c 1 0 * cond d 1 0
-either true true true d apart = absurd (apart refl refl)
-either true false true d apart = absurd (apart refl refl)
-either true true false d apart = refl
-either true false false d apart = refl
+either true true true true apart = absurd (apart refl refl)
+either true true true false apart = absurd (apart refl refl)
+either true false true true apart = absurd (apart refl refl)
+either true false true false apart = absurd (apart refl refl)
+either true true false true apart = refl
+either true true false false apart = refl
+either true false false true apart = refl
+either true false false false apart = refl
 either false true true true apart = refl
 either false true true false apart = refl
-either false true false d apart = refl
+either false true false true apart = refl
+either false true false false apart = refl
 either false false true true apart = refl
 either false false true false apart = refl
-either false false false d apart = refl
+either false false false true apart = refl
+either false false false false apart = refl
 
 pub coefficient-square : (left right : List ℕ) (i : ℕ) → 1 ≤ i → i ≤ length left → i ≤ length right → expanded left right (is_product i i) ≡ entry left i * entry right i
 coefficient-square left right i from within second =
@@ -81,3 +87,21 @@ coefficient-pair left right i q apart from within within_right second second_wit
         (λ j g. ap (λ d. entry left x * entry right (suc j) * d) (either (nat_eq x i) (nat_eq (suc j) q) (nat_eq x q) (nat_eq (suc j) i) (both x))
         ∙ spread (entry left x * entry right (suc j)) (delta x i * delta (suc j) q) (delta x q * delta (suc j) i))
         ∙ sum_to-sum m (first x) (other x)
+
+-- the coefficient as it is computed
+pub square_at : (p : ℕ) (left right : List ℕ) (i q result : ℕ) → i ≡ q → 1 ≤ i → i ≤ length left → i ≤ length right → result ≡ (get_or left (i - 1) 0 * get_or right (q - 1) 0) % p → result ≡ expanded left right (is_product i q) % p
+square_at p left right i q result same from within second is =
+    is ∙ ap (λ n. (get_or left (i - 1) 0 * get_or right (n - 1) 0) % p) (sym same)
+    ∙ sym (ap (λ n. (n * entry right i) % p) (entry-at left i from) ∙ ap (λ n. (get_or left (i - 1) 0 * n) % p) (entry-at right i from))
+    ∙ ap (λ n. n % p) (sym (coefficient-square left right i from within second))
+    ∙ ap (λ n. expanded left right (is_product i n) % p) same
+
+pub pair_at : (p : ℕ) (left right : List ℕ) (i q a b result : ℕ) → i ≢ q → 1 ≤ i → i ≤ length left → i ≤ length right → 1 ≤ q → q ≤ length left → q ≤ length right → a ≡ (get_or left (i - 1) 0 * get_or right (q - 1) 0) % p → b ≡ (get_or left (q - 1) 0 * get_or right (i - 1) 0) % p → result ≡ (a + b) % p → result ≡ expanded left right (is_product i q) % p
+pair_at p left right i q a b result apart from within within_right second second_within second_right one other is =
+    is ∙ ap (λ n. (n + b) % p) (one ∙ ap (λ n. n % p) (turned i q from second))
+    ∙ ap (λ n. ((entry left i * entry right q) % p + n) % p) (other ∙ ap (λ n. n % p) (turned q i second from))
+    ∙ sym (add-mod (entry left i * entry right q) (entry left q * entry right i) p)
+    ∙ ap (λ n. n % p) (sym (coefficient-pair left right i q apart from within within_right second second_within second_right))
+  where
+    turned : (x y : ℕ) → 1 ≤ x → 1 ≤ y → get_or left (x - 1) 0 * get_or right (y - 1) 0 ≡ entry left x * entry right y
+    turned x y h g = sym (ap (λ n. n * entry right y) (entry-at left x h) ∙ ap (λ n. get_or left (x - 1) 0 * n) (entry-at right y g))

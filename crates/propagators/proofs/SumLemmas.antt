@@ -1,6 +1,7 @@
 -- Sums of values, numbered from 1.
 use Rattle.std.proofs.Common.{◌≡◌, ◌≢◌, ℕ, zero, suc, ◌+◌, ◌-◌, ◌*◌, ◌%◌, ◌<◌, ◌≤◌, Bool, true, false, cond, nat_eq, List, [], ◌∷◌, length, get_or, refl, sym, ap, ◌∙◌, subst, arith, inl, inr}
 use Rattle.std.proofs.Math.Nat.{add-mod, mod-add-mod, add-mod-mod}
+use Rattle.std.proofs.lemmas.Nat.{mul-mod_first}
 use borrow.Author.Tests.{eqb-true, eqb-false}
 use Rattle.std.proofs.lemmas.Bool.{cases_eq}
 use Rattle.propagators.specs.Sums.{sum_to, entry}
@@ -59,14 +60,14 @@ delta-of false x i a e h = omega arith
 pub delta-same : (x : ℕ) → delta x x ≡ 1
 delta-same x = go (nat_eq x x) refl
   where
-    go : (b : Bool) → nat_eq x x ≡ b → cond b 1 0 ≡ 1
+    go : (b : Bool) → nat_eq x x ≡ b → cond {A = ℕ} b 1 0 ≡ 1
     go true e = refl
     go false e = absurd (eqb-false x x e refl)
 
 pub delta-other : (x i : ℕ) → x ≢ i → delta x i ≡ 0
 delta-other x i other = go (nat_eq x i) refl
   where
-    go : (b : Bool) → nat_eq x i ≡ b → cond b 1 0 ≡ 0
+    go : (b : Bool) → nat_eq x i ≡ b → cond {A = ℕ} b 1 0 ≡ 0
     go true e = absurd (other (eqb-true x i e))
     go false e = refl
 
@@ -101,7 +102,14 @@ pub entry-next : (xs : List ℕ) (n : ℕ) → entry xs (n + 1) ≡ get_or xs n 
 entry-next xs n = ap (entry xs) (let g : n + 1 ≡ suc n = omega arith in g)
 
 -- one more term, of residues
-pub more : (p n s t : ℕ) (f : ℕ → ℕ) → s ≡ sum_to n f % p → t ≡ f (suc n) % p → (s + t) % p ≡ sum_to (n + 1) f % p
+pub more : (p n s t : ℕ) (f : ℕ → ℕ) → s ≡ sum_to n f % p → t ≡ f (n + 1) % p → (s + t) % p ≡ sum_to (n + 1) f % p
 more p n s t f e d =
-    ap (λ a. (a + t) % p) e ∙ ap (λ b. (sum_to n f % p + b) % p) d ∙ sym (add-mod (sum_to n f) (f (suc n)) p)
-    ∙ ap (λ k. sum_to k f % p) (let g : suc n ≡ n + 1 = omega arith in g)
+    let next : n + 1 ≡ suc n = omega arith in
+    ap (λ a. (a + t) % p) e ∙ ap (λ b. (sum_to n f % p + b) % p) (d ∙ ap (λ k. f k % p) next) ∙ sym (add-mod (sum_to n f) (f (suc n)) p)
+    ∙ ap (λ k. sum_to k f % p) (sym next)
+
+-- a term as it is computed
+pub term : (p left both v w t y : ℕ) (right : List ℕ) → both ≡ (left * get_or right y 0) % p → v ≡ w → t ≡ (both * v) % p → t ≡ (left * entry right (y + 1) * w) % p
+term p left both v w t y right product value is =
+    is ∙ ap (λ a. (a * v) % p) product ∙ mul-mod_first (left * get_or right y 0) v p
+    ∙ ap (λ a. (left * a * v) % p) (sym (entry-next right y)) ∙ ap (λ a. (left * entry right (y + 1) * a) % p) value

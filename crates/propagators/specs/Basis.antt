@@ -3,11 +3,11 @@
 use Rattle.std.specs.Prelude.{◌≡◌, ℕ, ◌+◌, ◌-◌, ◌*◌, ◌/◌, ◌%◌, ◌<◌, ◌≤◌, ℤ, List, length, map, Some, All, slice_get}
 use Rattle.propagators.specs.declared.denominators.Denominator.{Denominator}
 use Rattle.propagators.specs.declared.denominators.Denominator.TheVariants.{Square, Bilinear}
-use Rattle.propagators.specs.Stand.{Point}
+use Rattle.kinematics.specs.Points.{Point, IsPoint}
 use Rattle.propagators.specs.Sums.{entry}
-use Rattle.propagators.specs.Forms.{Form, product_form, scaled_form, sum_form}
+use Rattle.propagators.specs.Forms.{Form, product_form, scaled_form, sum_form, product_total}
 use Rattle.propagators.specs.Momenta.{residues_of, unit}
-use Rattle.propagators.specs.Denominators.{form_of}
+use Rattle.propagators.specs.Denominators.{form_of, IsDenominator}
 use Rattle.propagators.specs.Combinations.{IsCombination, AreIndependent}
 
 -- the denominators of a family with this many loop momenta, at a point, which has the modulus and the
@@ -48,3 +48,13 @@ pub record IsDerivative (basis : Basis) (i q j : ℕ) (c : List ℕ) : Type 0 wh
   pub denominator : Denominator
   pub found : slice_get basis.denominators (j - 1) ≡ Some denominator
   pub is : IsCombination basis.point.modulus (forms_of basis) (derivative_form basis i q denominator) c
+
+-- what every basis keeps: few momenta, as many denominators as scalar products, and no dependence among them
+pub record IsBasis (basis : Basis) : Type 0 where
+  pub loops_from_1 : 1 ≤ basis.loops
+  pub few_loops : basis.loops ≤ 6
+  pub point : IsPoint basis.point
+  pub count : length basis.denominators ≡ product_total basis.loops basis.point.externals
+  pub few : length basis.denominators ≤ 20
+  pub denominators : All (IsDenominator basis.point.modulus (momenta_of basis)) basis.denominators
+  pub independent : AreIndependent basis.point.modulus (forms_of basis)

@@ -1,6 +1,6 @@
 -- Sums of multiples of forms and of 1. Source: Kira, arXiv:1705.05610, which writes scalar products in denominators.
 use Rattle.std.specs.Prelude.{◌≡◌, ℕ, suc, ◌+◌, ◌%◌, ◌<◌, List, length, map, drop, slice_index, All}
-use Rattle.propagators.specs.Stand.{IsVector, dot, column}
+use Rattle.matrix_elimination.specs.Vectors.{IsVector, dot, column}
 use Rattle.propagators.specs.Forms.{Form}
 
 -- the coefficients of the scalar products, one list for each form

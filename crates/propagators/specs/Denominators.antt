@@ -3,7 +3,7 @@ use Rattle.std.specs.Prelude.{◌≡◌, ℕ, ◌+◌, ◌<◌, ℤ, List, map, 
 use Rattle.field_word.specs.Residues.{difference_of}
 use Rattle.propagators.specs.declared.denominators.Denominator.{Denominator}
 use Rattle.propagators.specs.declared.denominators.Denominator.TheVariants.{Square, Bilinear}
-use Rattle.propagators.specs.Stand.{Point}
+use Rattle.kinematics.specs.Points.{Point}
 use Rattle.propagators.specs.Forms.{Form, product_form}
 use Rattle.propagators.specs.Momenta.{residues_of, replaced}
 

@@ -1,7 +1,7 @@
 -- Forms: what a product of two momenta is, written in the scalar products that have a loop momentum.
 -- Momenta are numbered from 1: the loop momenta first, then the independent external ones. Source: Kira, arXiv:1705.05610.
-use Rattle.std.specs.Prelude.{◌≡◌, ℕ, zero, suc, ◌+◌, ◌-◌, ◌*◌, ◌%◌, ◌<◌, nat_lt, ◌==◌, ◌&&◌, ◌||◌, if◌then◌else◌, List, [], ◌∷◌, ◌++◌, length, map, All}
-use Rattle.propagators.specs.Stand.{Point, product_at}
+use Rattle.std.specs.Prelude.{◌≡◌, ℕ, zero, suc, ◌+◌, ◌-◌, ◌*◌, ◌/◌, ◌%◌, ◌<◌, nat_lt, ◌==◌, ◌&&◌, ◌||◌, if◌then◌else◌, List, [], ◌∷◌, ◌++◌, length, map, All}
+use Rattle.kinematics.specs.Points.{Point, product_at}
 use Rattle.propagators.specs.Sums.{sum_to, entry}
 
 -- A form of L loop momenta and E external ones: a residue for each scalar product (i, q) with i ≤ L and
@@ -63,9 +63,14 @@ sum_form p form other = record form {
   constant = (form.constant + other.constant) % p;
 }
 
+-- how many scalar products there are of L loop momenta and E external ones
+abbrev pub product_total : ℕ → ℕ → ℕ
+product_total loops externals = loops * (loops + 1) / 2 + loops * externals
+
 -- a form of these momenta, of residues
 pub record IsForm (p loops externals : ℕ) (form : Form) : Type 0 where
   pub loops_are : form.loops ≡ loops
   pub externals_are : form.externals ≡ externals
+  pub size : length form.products ≡ product_total loops externals
   pub products : All (λ c. c < p) form.products
   pub constant : form.constant < p

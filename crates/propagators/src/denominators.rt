@@ -5,9 +5,9 @@ ghost use Rattle.propagators.specs.Denominators.{form_of, IsDenominator};
 ghost use Rattle.propagators.specs.Forms.{IsForm};
 
 use crate::forms::{Form, product};
-use crate::stand::Point;
+
 use field_word::Modulus;
-use kinematics::Momentum;
+use kinematics::{Momentum, Point};
 use out_of_memory::OutOfMemory;
 use std::alloc::Global;
 
@@ -33,6 +33,25 @@ pub enum Denominator {
     },
 }
 
+impl Denominator {
+    /// The same denominator.
+    pub fn copy(&self, alloc: Global) -> Result<Denominator, OutOfMemory>
+        ensures { IfOk result (λ denominator. denominator ≡ self.now) }
+    {
+        Ok(match self {
+            Denominator::Square { momentum, mass } => Denominator::Square {
+                momentum: Momentum::new(alloc, momentum.coefficients())?,
+                mass: *mass,
+            },
+            Denominator::Bilinear { left, right, mass } => Denominator::Bilinear {
+                left: Momentum::new(alloc, left.coefficients())?,
+                right: Momentum::new(alloc, right.coefficients())?,
+                mass: *mass,
+            },
+        })
+    }
+}
+
 /// The form of the denominator.
 pub fn form(
     alloc: Global,
@@ -46,14 +65,14 @@ pub fn form(
     ensures value { IfOk result (λ form. form ≡ form_of loops point.now denominator.now) }
     ensures form { IfOk result (λ form. IsForm modulus.now loops point.now.externals form) }
 {
-    let (mut form, mass) = match denominator {
+    match denominator {
         Denominator::Square { momentum, mass } => {
-            (product(alloc, momentum, momentum, loops, point, modulus)?, *mass)
+            let square = product(alloc, momentum, momentum, loops, point, modulus)?;
+            Ok(square.less_mass(*mass, modulus))
         }
         Denominator::Bilinear { left, right, mass } => {
-            (product(alloc, left, right, loops, point, modulus)?, *mass)
+            let both = product(alloc, left, right, loops, point, modulus)?;
+            Ok(both.less_mass(*mass, modulus))
         }
-    };
-    form.subtract_mass(mass, modulus);
-    Ok(form)
+    }
 }

@@ -3,15 +3,16 @@
 ghost use Rattle.std.specs.Prelude.{◌≡◌, ◌+◌, ◌*◌, ◌-◌, ◌%◌, ◌<◌, ◌≤◌, ◌↔◌, ℕ, All, IfOk, OnOk, OnErr, IsTrue, length, map, ◌++◌};
 ghost use Rattle.field_word.specs.Residues.{difference_of};
 ghost use Rattle.propagators.specs.Sums.{sum_to, entry};
-ghost use Rattle.propagators.specs.Stand.{IsPoint};
+ghost use Rattle.kinematics.specs.Points.{IsPoint};
 ghost use Rattle.propagators.specs.Forms.{IsForm, product_form, scaled_form, sum_form, sum_of_lists, expanded, is_product, external_product, pairs_with, scalar_products};
 ghost use Rattle.propagators.specs.Momenta.{residues_of};
 ghost use Rattle.propagators.specs.Denominators.{less_mass};
 
 use crate::momenta::residues;
-use crate::stand::Point;
+use crate::residue_lists::{add, scale};
+
 use field_word::Modulus;
-use kinematics::Momentum;
+use kinematics::{Momentum, Point};
 use out_of_memory::OutOfMemory;
 use std::alloc::Global;
 use std::marker::Model;
@@ -139,6 +140,8 @@ fn constant(left: &[u64], right: &[u64], loops: u32, point: &Point, modulus: &Mo
     ensures value { result ≡ expanded left.now right.now (external_product loops point.now) % modulus.now }
     ensures below { result < modulus.now }
 {
+    let p = modulus.value();
+    prove!(p > 0);
     let mut sum = 0;
     for x in 0..left.len() {
         sum = modulus.add(sum, constant_of(left[x], right, x + 1, loops, point, modulus));
@@ -214,13 +217,14 @@ impl Form {
         self.constant
     }
 
-    /// Subtracts a squared mass.
-    pub(crate) fn subtract_mass(&mut self, mass: u64, modulus: &Modulus)
-        requires constant { self.old.constant < modulus.now }
+    /// The form minus a squared mass.
+    pub(crate) fn less_mass(mut self, mass: u64, modulus: &Modulus) -> Form
+        requires constant { self.constant < modulus.now }
         requires mass { mass < modulus.now }
-        ensures { self.new ≡ less_mass modulus.now mass self.old }
+        ensures { result ≡ less_mass modulus.now mass self }
     {
         self.constant = modulus.sub(self.constant, mass);
+        self
     }
 
     /// Multiplies the form by a residue.
@@ -230,9 +234,20 @@ impl Form {
         requires factor { factor < modulus.now }
         ensures { self.new ≡ scaled_form modulus.now factor self.old }
     {
-        for product in self.products.iter_mut() {
-            *product = modulus.mul(factor, *product);
-        }
+        scale(&mut self.products, factor, modulus);
         self.constant = modulus.mul(factor, self.constant);
+    }
+
+    /// Adds another form of the same momenta.
+    pub(crate) fn add(&mut self, other: &Form, modulus: &Modulus)
+        requires products { All (λ c. c < modulus.now) self.old.products }
+        requires constant { self.old.constant < modulus.now }
+        requires other_products { All (λ c. c < modulus.now) other.now.products }
+        requires other_constant { other.now.constant < modulus.now }
+        requires same { length self.old.products ≡ length other.now.products }
+        ensures { self.new ≡ sum_form modulus.now self.old other.now }
+    {
+        add(&mut self.products, &other.products, modulus);
+        self.constant = modulus.add(self.constant, other.constant);
     }
 }

@@ -2,10 +2,17 @@
 //! product with a loop momentum can be written.
 #![tactic(auto)]
 
+mod bases;
+mod combinations;
 mod denominators;
+mod faults;
 mod forms;
+mod frames;
 mod momenta;
-mod stand;
+mod residue_lists;
 
+pub use bases::{Basis, family};
+pub use combinations::Combination;
 pub use denominators::{Denominator, form};
+pub use faults::BasisFault;
 pub use forms::{Form, product};

@@ -1,13 +1,25 @@
 //! Momenta as lists of residues, one for each loop momentum and then one for each external momentum.
 
 ghost use Rattle.std.specs.Prelude.{◌≡◌, ◌+◌, ◌<◌, ◌≤◌, ℕ, ℤ, List, All, IfOk, length, map};
-ghost use Rattle.propagators.specs.Momenta.{residues_of, unit, replacement, replaced};
+ghost use Rattle.propagators.specs.Momenta.{residue_of, residues_of, unit, replacement, replaced};
 
-use crate::stand::residue;
+
 use field_word::Modulus;
 use kinematics::Momentum;
 use out_of_memory::OutOfMemory;
 use std::alloc::Global;
+
+/// The residue of a coefficient.
+fn residue(coefficient: i16, modulus: &Modulus) -> u64
+    ensures value { result ≡ residue_of modulus.now coefficient }
+    ensures below { result < modulus.now }
+{
+    if coefficient >= 0 {
+        modulus.reduce(coefficient as u128)
+    } else {
+        modulus.neg(modulus.reduce(coefficient.unsigned_abs() as u128))
+    }
+}
 
 /// The residues of the coefficients.
 pub(crate) fn residues(
