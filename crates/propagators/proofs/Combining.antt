@@ -1,6 +1,6 @@
 -- The combination of forms whose elimination leaves none over: that there is one, and no other.
 use Rattle.std.proofs.Common.{◌≡◌, ℕ, zero, suc, ◌+◌, ◌-◌, ◌*◌, ◌%◌, ◌<◌, ◌≤◌, List, [], ◌∷◌, length, map, drop, All, get_or, refl, sym, ap, ◌∙◌, subst, arith, add-zero}
-use Rattle.std.proofs.Math.Nat.{mod-eq_of_lt, zero-mod, zero-mul, mod-add-mod, add-mod-mod, mod-lt, mod-self}
+use Rattle.std.proofs.Math.Nat.{mod-eq_of_lt, zero-mod, zero-mul, mod-add-mod, add-mod-mod, mod-lt, mod_self}
 use Rattle.std.proofs.Math.ListN.{get_or-map}
 use Rattle.std.proofs.lemmas.Grind.{same_number_lists, get_or_default_zero}
 use Rattle.std.proofs.lemmas.List.{length-map}
@@ -20,7 +20,7 @@ restored : (p a d : ℕ) → a < p → (difference_of p a (d % p) + d) % p ≡ a
 restored p a d below =
     mod-add-mod (a + (p - d % p)) p d ∙ sym (add-mod-mod (a + (p - d % p)) d p)
     ∙ ap (λ n. n % p) (let less : d % p < p = mod-lt d (omega arith) in let e : a + (p - d % p) + d % p ≡ a + p = omega arith in e)
-    ∙ sym (add-mod-mod a p p) ∙ ap (λ n. (a + n) % p) (mod-self p) ∙ ap (λ n. n % p) (add-zero a) ∙ mod-eq_of_lt below
+    ∙ sym (add-mod-mod a p p) ∙ ap (λ n. (a + n) % p) (mod_self p) ∙ ap (λ n. n % p) (add-zero a) ∙ mod-eq_of_lt below
 
 -- a number is known by its sum with another
 cancelled : (p a b d : ℕ) → a < p → b < p → (a + d) % p ≡ (b + d) % p → a ≡ b
@@ -31,7 +31,7 @@ cancelled p a b d first second same = sym (back a first) ∙ ap (λ n. (n + (p -
         mod-add-mod (a + d) p (p - d % p)
         ∙ ap (λ n. n % p) (let e : a + d + (p - d % p) ≡ a + (d + (p - d % p)) = omega arith in e)
         ∙ sym (add-mod-mod a (d + (p - d % p)) p)
-        ∙ ap (λ n. (a + n) % p) (sym (mod-add-mod d p (p - d % p)) ∙ ap (λ n. n % p) (let less : d % p < p = mod-lt d (omega arith) in let e : d % p + (p - d % p) ≡ p = omega arith in e) ∙ mod-self p)
+        ∙ ap (λ n. (a + n) % p) (sym (mod-add-mod d p (p - d % p)) ∙ ap (λ n. n % p) (let less : d % p < p = mod-lt d (omega arith) in let e : d % p + (p - d % p) ≡ p = omega arith in e) ∙ mod_self p)
         ∙ ap (λ n. n % p) (add-zero a) ∙ mod-eq_of_lt below
 
 All-cons : (p a : ℕ) (xs : List ℕ) → a < p → All (λ x. x < p) xs → All (λ x. x < p) (a ∷ xs)

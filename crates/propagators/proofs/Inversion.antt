@@ -100,7 +100,7 @@ delta-turned i j = elim (cases_eq i j) [
 pub column-entry : (x k : ℕ) (rows : List (List ℕ)) → entry (column x rows) (suc k) ≡ get_or (get_or rows k []) x 0
 column-entry x k rows = get_or-map (λ row. get_or row x 0) rows k []
 
-multipliers-entry : (i x : ℕ) (solved : List (Option Solved)) → entry (multipliers_at i solved) (suc x) ≡ multiplier_at i (get_or solved x None)
+pub multipliers-entry : (i x : ℕ) (solved : List (Option Solved)) → entry (multipliers_at i solved) (suc x) ≡ multiplier_at i (get_or solved x None)
 multipliers-entry i x solved = get_or-map (λ s. multiplier_at i s) solved x None
 
 pub delta-mod : (p i j : ℕ) → 1 < p → delta i j % p ≡ delta i j

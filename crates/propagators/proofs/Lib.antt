@@ -5,3 +5,4 @@ pub mod Inversion
 pub mod ProductLemmas
 pub mod FormLemmas
 pub mod Combining
+pub mod FrameLemmas

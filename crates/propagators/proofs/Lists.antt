@@ -39,7 +39,7 @@ All-listed p zero f each = All-nil (λ c. c < p)
 All-listed p (suc n) f each = All-push (λ c. c < p) (listed n f) (f (suc n)) (All-listed p n f each) (each (suc n))
 
 pub All-mapped : {A : Type 0} (p : ℕ) (f : A → ℕ) (xs : List A) → ((x : A) → f x < p) → All (λ c. c < p) (map f xs)
-All-mapped p f xs each = All-from_recursion (λ c. c < p) (map f xs) (go xs)
+All-mapped {A = A} p f xs each = All-from_recursion (λ c. c < p) (map f xs) (go xs)
   where
     go : (xs : List A) → AllByRecursion (λ c. c < p) (map f xs)
     go [] = tt

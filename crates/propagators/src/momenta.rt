@@ -1,6 +1,7 @@
 //! Momenta as lists of residues, one for each loop momentum and then one for each external momentum.
 
 ghost use Rattle.std.specs.Prelude.{◌≡◌, ◌+◌, ◌<◌, ◌≤◌, ℕ, ℤ, List, All, IfOk, length, map};
+ghost use Rattle.propagators.specs.Sums.{entry};
 ghost use Rattle.propagators.specs.Momenta.{residue_of, residues_of, unit, replacement, replaced};
 
 
@@ -48,4 +49,13 @@ pub(crate) fn unit(alloc: Global, width: usize, number: usize) -> Result<Vec<u64
         unit.push(u64::from(place + 1 == number))?;
     }
     Ok(unit)
+}
+
+/// The coefficient of the momentum with this number.
+pub(crate) fn coefficient(momentum: &[u64], number: usize) -> u64
+    requires from_1 { 1 ≤ number }
+    requires within { number ≤ length momentum.now }
+    ensures { result ≡ entry momentum.now number }
+{
+    momentum[number - 1]
 }
