@@ -11,6 +11,8 @@ mod names;
 mod numbers;
 mod points;
 mod product_places;
+mod rule_rows;
+mod rules;
 mod tokens;
 mod value_reader;
 
@@ -21,6 +23,8 @@ pub use momenta::Momentum;
 pub use momentum_reader::read_momentum;
 pub use names::Name;
 pub use points::Point;
+pub use rule_rows::residue;
+pub use rules::{PointFault, Rule, point};
 pub use value_reader::read_value;
 
 #[cfg(test)]

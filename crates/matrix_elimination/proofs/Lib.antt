@@ -7,3 +7,4 @@ pub mod Taking
 pub mod Cancelling
 pub mod Solving
 pub mod Ends
+pub mod Solutions

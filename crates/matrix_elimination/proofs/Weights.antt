@@ -1,8 +1,10 @@
 -- Sums of products: `dot` of two lists as the sum of the entries of the first, weighted by a function of
 -- their places. All lemmas on `dot` are read off from those on `weigh`.
-use Rattle.std.proofs.Common.{◌≡◌, ◌≢◌, ℕ, zero, suc, ◌+◌, ◌*◌, ◌%◌, ◌<◌, ◌≤◌, List, [], ◌∷◌, ◌++◌, length, map, get_or, take, replicate, refl, sym, ap, ◌∙◌, arith, zero-add, add-zero, add_assoc}
-use Rattle.std.proofs.Math.Nat.{mul-add, mul_comm, mul_assoc, mul-zero, mul-one, zero-mul, suc-ne-zero}
+use Rattle.std.proofs.Common.{◌≡◌, ◌≢◌, ℕ, zero, suc, ◌+◌, ◌*◌, ◌%◌, ◌<◌, ◌≤◌, List, [], ◌∷◌, ◌++◌, length, map, get_or, take, replicate, min, inl, inr, refl, sym, ap, ◌∙◌, arith, zero-add, add-zero, add_assoc}
+use Rattle.std.proofs.Math.Nat.{mul-add, mul_comm, mul_assoc, mul-zero, mul-one, zero-mul, suc-ne-zero, add-mod}
 use Rattle.std.proofs.lemmas.Bool.Decides.{nat_tests}
+use Rattle.std.proofs.Math.Numerals.{add-one}
+use Rattle.std.proofs.lemmas.Bool.{cases_lt}
 use Rattle.std.proofs.Math.Seq.{take-nil}
 use Rattle.std.proofs.lemmas.List.{take_all}
 use Rattle.matrix_elimination.specs.Vectors.{dot, column, unit_at}
@@ -128,3 +130,29 @@ dot-take-suc (x ∷ xs) (y ∷ ys) (suc c) =
 
 pub dot-take-all : (xs ys : List ℕ) (c : ℕ) → length xs ≤ c → dot (take c xs) ys ≡ dot xs ys
 dot-take-all xs ys c h = ap (λ zs. dot zs ys) (take_all c xs h)
+
+-- no more places than the second list has
+pub dot-take-other : (xs ys : List ℕ) (c : ℕ) → length ys ≤ c → dot (take c xs) ys ≡ dot xs ys
+dot-take-other xs [] c h = dot-nil (take c xs) ∙ sym (dot-nil xs)
+dot-take-other [] (y ∷ ys) c h = ap (λ zs. dot zs (y ∷ ys)) (take-nil c)
+dot-take-other (x ∷ xs) (y ∷ ys) zero h = absurd (omega arith)
+dot-take-other (x ∷ xs) (y ∷ ys) (suc c) h = ap (λ n. x * y + n) (dot-take-other xs ys c (omega arith))
+
+-- the numbers of places that a loop over both lists goes through
+pub dot-take-min : (xs ys : List ℕ) (c : ℕ) → min (length xs) (length ys) ≤ c → dot (take c xs) ys ≡ dot xs ys
+dot-take-min xs ys c h =
+    elim (cases_lt (length xs) (length ys)) [
+      | inl less ↦ dot-take-all xs ys c (omega arith)
+      | inr more ↦ dot-take-other xs ys c (omega arith)
+    ]
+
+pub dot-take-add : (p : ℕ) (xs ys : List ℕ) (c : ℕ) → (dot (take c xs) ys % p + (get_or xs c 0 * get_or ys c 0) % p) % p ≡ dot (take (c + 1) xs) ys % p
+dot-take-add p xs ys c =
+    sym (add-mod (dot (take c xs) ys) (get_or xs c 0 * get_or ys c 0) p) ∙ ap (λ n. n % p) (sym (ap (λ n. dot (take n xs) ys) (add-one c) ∙ dot-take-suc xs ys c))
+
+-- the rows' products with a vector, weighed, are the columns' sums, weighed by the vector
+pub dot-columns : (vector multipliers : List ℕ) (rows : List (List ℕ)) → weigh vector (λ x. dot multipliers (column x rows)) ≡ weigh multipliers (λ j. dot (get_or rows j []) vector)
+dot-columns vector multipliers rows =
+    weigh-equal vector (λ x. dot multipliers (column x rows)) (λ x. weigh multipliers (λ j. get_or (get_or rows j []) x 0)) (λ x _. dot-weigh multipliers (column x rows) ∙ weigh-equal multipliers (λ j. get_or (column x rows) j 0) (λ j. get_or (get_or rows j []) x 0) (λ j _. column-at x rows j))
+    ∙ weigh-turn vector multipliers (λ x j. get_or (get_or rows j []) x 0)
+    ∙ weigh-equal multipliers (λ j. weigh vector (λ x. get_or (get_or rows j []) x 0)) (λ j. dot (get_or rows j []) vector) (λ j _. sym (dot-comm (get_or rows j []) vector ∙ dot-weigh vector (get_or rows j [])))

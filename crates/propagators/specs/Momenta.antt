@@ -1,11 +1,7 @@
 -- Momenta as residues: one for each loop momentum, then one for each independent external momentum.
-use Rattle.std.specs.Prelude.{ℕ, zero, suc, ◌+◌, ◌-◌, ◌*◌, ◌%◌, nat_le, ◌==◌, if◌then◌else◌, ℤ, pos, negsuc, List, [], ◌∷◌, ◌++◌, map, length}
+use Rattle.std.specs.Prelude.{ℕ, zero, suc, ◌+◌, ◌*◌, ◌%◌, nat_le, ◌==◌, if◌then◌else◌, ℤ, List, [], ◌∷◌, ◌++◌, map, length}
+use Rattle.kinematics.specs.Rules.{residue_of}
 use Rattle.propagators.specs.Sums.{sum_to, entry}
-
--- the residue of a whole number
-abbrev pub residue_of : ℕ → ℤ → ℕ
-residue_of p (pos n) = n % p
-residue_of p (negsuc n) = (p - suc n % p) % p
 
 -- the residues of the coefficients
 abbrev pub residues_of : ℕ → List ℤ → List ℕ

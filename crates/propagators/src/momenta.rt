@@ -2,25 +2,13 @@
 
 ghost use Rattle.std.specs.Prelude.{◌≡◌, ◌+◌, ◌<◌, ◌≤◌, ℕ, ℤ, List, All, IfOk, length, map};
 ghost use Rattle.propagators.specs.Sums.{entry};
-ghost use Rattle.propagators.specs.Momenta.{residue_of, residues_of, unit, replacement, replaced};
+ghost use Rattle.propagators.specs.Momenta.{residues_of, unit};
 
 
 use field_word::Modulus;
-use kinematics::Momentum;
+use kinematics::{Momentum, residue};
 use out_of_memory::OutOfMemory;
 use std::alloc::Global;
-
-/// The residue of a coefficient.
-fn residue(coefficient: i16, modulus: &Modulus) -> u64
-    ensures value { result ≡ residue_of modulus.now coefficient }
-    ensures below { result < modulus.now }
-{
-    if coefficient >= 0 {
-        modulus.reduce(coefficient as u128)
-    } else {
-        modulus.neg(modulus.reduce(coefficient.unsigned_abs() as u128))
-    }
-}
 
 /// The residues of the coefficients.
 pub(crate) fn residues(
@@ -34,7 +22,7 @@ pub(crate) fn residues(
     let coefficients = momentum.coefficients();
     let mut residues = Vec::new(alloc);
     for coefficient in coefficients {
-        residues.push(residue(*coefficient, modulus))?;
+        residues.push(residue(i64::from(*coefficient), modulus))?;
     }
     Ok(residues)
 }
