@@ -4,5 +4,6 @@ pub mod Lists
 pub mod Inversion
 pub mod ProductLemmas
 pub mod FormLemmas
+pub mod ImageLemmas
 pub mod Combining
 pub mod FrameLemmas

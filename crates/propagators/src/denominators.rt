@@ -95,16 +95,17 @@ pub fn image(
     ensures value { IfOk result (λ form. form ≡ image_of loops point.now images.now denominator.now) }
     ensures form { IfOk result (λ form. IsForm modulus.now loops point.now.externals form) }
 {
-    let images = image_residues(alloc, images, modulus)?;
+    let width = loops as usize + point.externals() as usize;
+    let images = image_residues(alloc, images, width, modulus)?;
     match denominator {
         Denominator::Square { momentum, mass } => {
-            let momentum = replaced(alloc, momentum, &images, modulus)?;
+            let momentum = replaced(alloc, momentum, &images, width, modulus)?;
             let square = product_of(alloc, &momentum, &momentum, loops, point, modulus)?;
             Ok(square.less_mass(*mass, modulus))
         }
         Denominator::Bilinear { left, right, mass } => {
-            let left = replaced(alloc, left, &images, modulus)?;
-            let right = replaced(alloc, right, &images, modulus)?;
+            let left = replaced(alloc, left, &images, width, modulus)?;
+            let right = replaced(alloc, right, &images, width, modulus)?;
             let both = product_of(alloc, &left, &right, loops, point, modulus)?;
             Ok(both.less_mass(*mass, modulus))
         }

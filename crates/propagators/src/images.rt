@@ -16,10 +16,12 @@ use std::alloc::Global;
 pub(crate) fn image_residues(
     alloc: Global,
     images: &[Momentum],
+    width: usize,
     modulus: &Modulus,
 ) -> Result<Vec<Vector>, OutOfMemory>
+    requires { All (λ image. length image ≡ width) images.now }
     ensures value { IfOk result (λ v. v.items ≡ map (residues_of modulus.now) images.now) }
-    ensures below { IfOk result (λ v. All (λ image. All (λ c. c < modulus.now) image) v.items) }
+    ensures vectors { IfOk result (λ v. All (IsVector modulus.now width) v.items) }
 {
     let mut vectors = Vec::new(alloc);
     for image in images {
@@ -33,16 +35,18 @@ pub(crate) fn replaced(
     alloc: Global,
     momentum: &Momentum,
     images: &[Vector],
+    width: usize,
     modulus: &Modulus,
 ) -> Result<Vec<u64>, OutOfMemory>
-    requires images { All (IsVector modulus.now (length momentum.now)) images.now }
+    requires momentum { length momentum.now ≡ width }
+    requires images { All (IsVector modulus.now width) images.now }
     ensures value { IfOk result (λ v. v.items ≡
         replaced modulus.now images.now (residues_of modulus.now momentum.now)) }
-    ensures below { IfOk result (λ v. All (λ c. c < modulus.now) v.items) }
+    ensures vector { IfOk result (λ v. IsVector modulus.now width v.items) }
 {
     let momentum = residues(alloc, momentum, modulus)?;
     let mut coefficients = Vec::new(alloc);
-    for place in 0..momentum.len() {
+    for place in 0..width {
         coefficients.push(replaced_at(&momentum, images, place + 1, modulus))?;
     }
     Ok(coefficients)
