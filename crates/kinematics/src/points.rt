@@ -2,6 +2,8 @@
 
 use crate::product_places::place_of;
 use field_word::Modulus;
+use out_of_memory::OutOfMemory;
+use std::alloc::Global;
 use std::marker::Model;
 
 /// The products of the independent external momenta, one residue for each two of them. The momenta
@@ -29,7 +31,7 @@ impl Model for Point {
 }
 
 impl Point {
-    ghost use Rattle.std.specs.Prelude.{◌≡◌, ◌<◌, ◌≤◌};
+    ghost use Rattle.std.specs.Prelude.{◌≡◌, ◌<◌, ◌≤◌, IfOk};
     ghost use Rattle.field_word.specs.Residues.{IsModulus};
     ghost use Rattle.kinematics.specs.Points.{IsPoint, IsTable, product_at};
 
@@ -46,6 +48,18 @@ impl Point {
             externals,
             products,
         }
+    }
+
+    /// The same point.
+    pub fn copy(&self, alloc: Global) -> Result<Point, OutOfMemory>
+        ensures value { IfOk result (λ point. point ≡ self.now) }
+        ensures point { IsPoint self.now }
+    {
+        Ok(Point {
+            modulus: self.modulus,
+            externals: self.externals,
+            products: Vec::from_slice(alloc, &self.products)?,
+        })
     }
 
     /// How many independent external momenta there are: at most 6.
