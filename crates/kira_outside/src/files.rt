@@ -1,4 +1,5 @@
-// Files by their names, of which the program only reads.
+//! Files by their names, of which the program only reads.
+
 ghost use Rattle.std.specs.Prelude.{◌≡◌, ◌≤◌, ℕ, Option, length, IfOk, OnOk, IsErrOf};
 ghost use Rattle.kira_outside.specs.Faults.{Rose};
 ghost use Rattle.kira_outside.specs.Held.{Held, LoadGives, LacksName};

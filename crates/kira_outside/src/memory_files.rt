@@ -1,4 +1,5 @@
-// Files in memory, which tell all that they hold.
+//! Files in memory, which tell all that they hold.
+
 ghost use Rattle.std.specs.Prelude.{◌≡◌, ◌≤◌, ◌↔◌, ◌≢◌, Some, length, take, option_map, IfOk, OnOk, OnErr, IsErrOf};
 ghost use Rattle.std.specs.FinMap.{get};
 ghost use Rattle.kira_outside.specs.Faults.{Rose};

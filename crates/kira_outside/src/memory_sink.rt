@@ -1,4 +1,5 @@
-// A sink in memory, which tells all that it was given.
+//! A sink in memory, which tells all that it was given.
+
 ghost use Rattle.std.specs.Prelude.{◌≡◌, ◌≤◌, ◌<◌, ◌↔◌, ℕ, [], length, take, option_map, IfOk, OnOk, OnErr, IsErr};
 ghost use Rattle.kira_outside.specs.Faults.{Rose};
 ghost use Rattle.kira_outside.specs.Stream.{appended, all_flushed};
