@@ -1,0 +1,4 @@
+pub mod SumLemmas
+pub mod TermLemmas
+pub mod CollectingLemmas
+pub mod ShiftLemmas

@@ -1,0 +1,41 @@
+-- The equations of integration by parts: the integral over a total derivative vanishes.
+-- Source: Kira, arXiv:1705.05610, and Laporta, hep-ph/0102033. Denominators, momenta and indices are numbered from 1.
+use Rattle.std.specs.Prelude.{◌≡◌, ℕ, suc, ◌+◌, ◌%◌, ◌≤◌, ◌==◌, if◌then◌else◌, ℤ, pos, negsuc, List, slice_index_or}
+use Rattle.field_word.specs.Residues.{opposite_of, product_of}
+use Rattle.integral_index.specs.Integral.{Integral, sector_of}
+use Rattle.integral_index.specs.ZeroSectors.{is_zero_sector}
+use Rattle.sparse_row.specs.declared.Term.{Term}
+use Rattle.sparse_row.specs.Terms.{coefficient_at}
+use Rattle.ibp_generator.specs.Sums.{sum_to}
+use Rattle.ibp_generator.specs.Shifts.{index_at, lowered, raised}
+
+-- minus an index times a residue, modulo p
+abbrev pub minus_times : ℕ → ℤ → ℕ → ℕ
+minus_times p (pos n) c = opposite_of p (product_of p n c)
+minus_times p (negsuc n) c = product_of p (suc n) c
+
+-- c_k of a list c_0, c_1, ..
+abbrev pub residue_at : List ℕ → ℕ → ℕ
+residue_at c k = slice_index_or c k 0
+
+-- c times the integral of these indices, of the seed's family
+abbrev pub term_of : Integral → List ℤ → ℕ → Term
+term_of seed indices c = record { integral = record { family = seed.family; indices = indices }; coefficient = c }
+
+-- the sum of the coefficients that x has in the terms of the denominator j:
+-- -a_j·c_0 for I(a + e_j), and -a_j·c_k for I(a + e_j - e_k), over all k
+abbrev pub denominator_sum : ℕ → Integral → ℕ → List ℕ → ℕ → Integral → ℕ
+denominator_sum p seed width c j x =
+    let a = seed.indices in
+    coefficient_at x (term_of seed (raised a j) (minus_times p (index_at a j) (residue_at c 0)))
+    + sum_to width (λ k. coefficient_at x (term_of seed (lowered (raised a j) k) (minus_times p (index_at a j) (residue_at c k))))
+
+-- the sum of the coefficients that x has in all terms: d·[q = i] for I(a), and those of each denominator.
+-- `c j` are the residues of the denominator j
+abbrev pub equation_sum : ℕ → Integral → ℕ → ℕ → ℕ → ℕ → (ℕ → List ℕ) → Integral → ℕ
+equation_sum p seed width d i q c x =
+    coefficient_at x (term_of seed seed.indices (if q == i then d else 0)) + sum_to width (λ j. denominator_sum p seed width (c j) j x)
+
+-- the number where the sector of x isn't zero, and else 0
+abbrev pub unless_zero : List ℕ → Integral → ℕ → ℕ
+unless_zero zeros x n = if is_zero_sector zeros (sector_of x.indices) then 0 else n

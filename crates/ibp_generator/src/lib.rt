@@ -1,0 +1,6 @@
+//! The equations of integration by parts.
+#![tactic(auto)]
+
+mod collecting;
+mod shifts;
+mod terms;
