@@ -15,3 +15,4 @@ pub mod LawLemmas
 pub mod PrintedTokens
 pub mod PrintedMomenta
 pub mod OutcomeLemmas
+pub mod PlaceLemmas

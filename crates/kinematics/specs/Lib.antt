@@ -13,3 +13,5 @@ pub mod Evaluation
 pub mod Execution
 pub mod Laws
 pub mod Printed
+pub mod Points
+pub mod KeptPoint

@@ -9,6 +9,8 @@ mod momenta;
 mod momentum_reader;
 mod names;
 mod numbers;
+mod points;
+mod product_places;
 mod tokens;
 mod value_reader;
 
@@ -18,6 +20,7 @@ pub use laws::{printed_momentum_reads_back, readings_are_unique, values_are_uniq
 pub use momenta::Momentum;
 pub use momentum_reader::read_momentum;
 pub use names::Name;
+pub use points::Point;
 pub use value_reader::read_value;
 
 #[cfg(test)]

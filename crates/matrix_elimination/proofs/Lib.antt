@@ -1,0 +1,3 @@
+mod Changes
+pub mod Congruences
+pub mod Weights

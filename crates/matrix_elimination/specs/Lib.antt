@@ -1,0 +1,4 @@
+pub mod Vectors
+pub mod Elimination
+pub mod Fault
+pub mod Steps

@@ -1,0 +1,12 @@
+//! Gauss-Jordan elimination of dense matrices over the residues modulo p, prime or not, with the
+//! multipliers kept that lead from the rows given to the rows found.
+#![tactic(auto)]
+
+mod elimination;
+mod vectors;
+
+pub use elimination::{Eliminated, EliminationFault, Solved, eliminate};
+pub use vectors::Vector;
+
+#[cfg(test)]
+mod tests;

@@ -1,0 +1,4 @@
+pub mod SumLemmas
+pub mod Expansion
+pub mod Lists
+pub mod Inversion

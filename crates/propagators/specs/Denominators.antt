@@ -1,0 +1,24 @@
+-- The forms of denominators. Source: Kira, arXiv:1705.05610; the bilinear denominators are those of its input.
+use Rattle.std.specs.Prelude.{◌≡◌, ℕ, ◌+◌, ◌<◌, ℤ, List, map, length}
+use Rattle.field_word.specs.Residues.{difference_of}
+use Rattle.propagators.specs.declared.denominators.Denominator.{Denominator}
+use Rattle.propagators.specs.declared.denominators.Denominator.TheVariants.{Square, Bilinear}
+use Rattle.kinematics.specs.Points.{Point}
+use Rattle.propagators.specs.Forms.{Form, product_form}
+use Rattle.propagators.specs.Momenta.{residues_of, replaced}
+
+-- the form minus a constant
+abbrev pub less_mass : ℕ → ℕ → Form → Form
+less_mass p mass form = record form { constant = difference_of p form.constant mass }
+
+-- q·q minus the squared mass, or q1·q2 minus it
+abbrev pub form_of : ℕ → Point → Denominator → Form
+form_of loops point (Square q mass) =
+    less_mass point.modulus mass (product_form loops point (residues_of point.modulus q) (residues_of point.modulus q))
+form_of loops point (Bilinear q1 q2 mass) =
+    less_mass point.modulus mass (product_form loops point (residues_of point.modulus q1) (residues_of point.modulus q2))
+
+-- momenta with this many coefficients, and a residue as squared mass
+abbrev pub IsDenominator : ℕ → ℕ → Denominator → Type 0
+IsDenominator p width (Square q mass) = (length q ≡ width) × (mass < p)
+IsDenominator p width (Bilinear q1 q2 mass) = (length q1 ≡ width) × (length q2 ≡ width) × (mass < p)

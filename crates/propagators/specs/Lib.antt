@@ -1,0 +1,9 @@
+pub mod Sums
+pub mod Forms
+pub mod Momenta
+pub mod Denominators
+pub mod Faults
+pub mod Combinations
+pub mod Inverses
+pub mod Basis
+pub mod KeptBasis

@@ -1,0 +1,78 @@
+//! Denominators and their forms.
+
+ghost use Rattle.std.specs.Prelude.{◌≡◌, ◌+◌, IfOk};
+ghost use Rattle.propagators.specs.Denominators.{form_of, IsDenominator};
+ghost use Rattle.propagators.specs.Forms.{IsForm};
+
+use crate::forms::{Form, product};
+
+use field_word::Modulus;
+use kinematics::{Momentum, Point};
+use out_of_memory::OutOfMemory;
+use std::alloc::Global;
+
+/// A denominator over loop momenta, then independent external ones. The squared mass is a residue.
+/// Source: Kira, arXiv:1705.05610.
+#[derive(Debug, Drop)]
+pub enum Denominator {
+    /// The square of a momentum, minus a squared mass.
+    Square {
+        /// The momentum.
+        momentum: Momentum,
+        /// The squared mass.
+        mass: u64,
+    },
+    /// The product of two momenta, minus a squared mass.
+    Bilinear {
+        /// The one momentum.
+        left: Momentum,
+        /// The other momentum.
+        right: Momentum,
+        /// The squared mass.
+        mass: u64,
+    },
+}
+
+impl Denominator {
+    /// The same denominator.
+    pub fn copy(&self, alloc: Global) -> Result<Denominator, OutOfMemory>
+        ensures { IfOk result (λ denominator. denominator ≡ self.now) }
+    {
+        Ok(match self {
+            Denominator::Square { momentum, mass } => Denominator::Square {
+                momentum: Momentum::new(alloc, momentum.coefficients())?,
+                mass: *mass,
+            },
+            Denominator::Bilinear { left, right, mass } => Denominator::Bilinear {
+                left: Momentum::new(alloc, left.coefficients())?,
+                right: Momentum::new(alloc, right.coefficients())?,
+                mass: *mass,
+            },
+        })
+    }
+}
+
+/// The form of the denominator.
+pub fn form(
+    alloc: Global,
+    denominator: &Denominator,
+    loops: u32,
+    point: &Point,
+    modulus: &Modulus,
+) -> Result<Form, OutOfMemory>
+    requires modulus { point.now.modulus ≡ modulus.now }
+    requires denominator { IsDenominator modulus.now (loops + point.now.externals) denominator.now }
+    ensures value { IfOk result (λ form. form ≡ form_of loops point.now denominator.now) }
+    ensures form { IfOk result (λ form. IsForm modulus.now loops point.now.externals form) }
+{
+    match denominator {
+        Denominator::Square { momentum, mass } => {
+            let square = product(alloc, momentum, momentum, loops, point, modulus)?;
+            Ok(square.less_mass(*mass, modulus))
+        }
+        Denominator::Bilinear { left, right, mass } => {
+            let both = product(alloc, left, right, loops, point, modulus)?;
+            Ok(both.less_mass(*mass, modulus))
+        }
+    }
+}
