@@ -2,3 +2,4 @@ pub mod SumLemmas
 pub mod TermLemmas
 pub mod CollectingLemmas
 pub mod ShiftLemmas
+pub mod DenominatorLemmas

@@ -1,5 +1,5 @@
 -- Index lists with one index changed.
-use Rattle.std.proofs.Common.{◌≡◌, ℕ, zero, suc, ◌+◌, ◌-◌, ◌<◌, ◌≤◌, ◌⊎◌, inl, inr, List, [], ◌∷◌, ◌++◌, length, take, drop, get_or, set, refl, sym, ap, subst, ◌∙◌, arith, add-one, ℤ, pos, negsuc, ◌+ℤ◌}
+use Rattle.std.proofs.Common.{◌≡◌, ℕ, zero, suc, ◌+◌, ◌-◌, ◌<◌, ◌≤◌, ◌⊎◌, inl, inr, List, [], ◌∷◌, ◌++◌, length, take, drop, get_or, set, refl, sym, ap, subst, ◌∙◌, arith, add-one, ℤ, pos, negsuc, ◌+ℤ◌, to_z, of_z, w8}
 use Rattle.std.specs.Prelude.{All}
 use Rattle.std.proofs.lemmas.Int.{ints}
 use Rattle.std.proofs.lemmas.List.{length-set, take_at}
@@ -77,3 +77,12 @@ pub AllRaised : (a : List ℤ) (place : ℕ) → All IsSeedIndex a → place < l
 AllRaised a place all within =
     subst (λ (xs : List ℤ). All IsRaisedIndex xs) (sym (shifted-is a place (pos 1)))
     (All-set IsRaisedIndex a place _ (λ k d h. seed_is_raised (get_or a k d) (all k d h)) (raised_index (get_or a place (pos 0)) (all place (pos 0) within)))
+
+-- an index of a seed is read as it is
+as_it_is : (z : ℤ) → IsSeedIndex z → to_z w8 (of_z w8 z) ≡ z
+as_it_is (pos n) h = omega (arith, ints, h.0)
+as_it_is (negsuc n) h = omega (arith, ints, h.1)
+
+pub index_read : (a read : List ℤ) (place : ℕ) → All IsSeedIndex a → place < length a → read ≡ a → to_z w8 (of_z w8 (get_or read place (pos 0))) ≡ index_at a (place + 1)
+index_read a read place all within same =
+    ap (λ (xs : List ℤ). to_z w8 (of_z w8 (get_or xs place (pos 0)))) same ∙ as_it_is (get_or a place (pos 0)) (all place (pos 0) within) ∙ sym (index_at-is a place)

@@ -9,10 +9,10 @@ use Rattle.sparse_row.specs.Terms.{coefficient_at}
 use Rattle.ibp_generator.specs.Sums.{sum_to}
 use Rattle.ibp_generator.specs.Shifts.{index_at, lowered, raised}
 
--- minus an index times a residue, modulo p
-abbrev pub minus_times : ℕ → ℤ → ℕ → ℕ
-minus_times p (pos n) c = opposite_of p (product_of p n c)
-minus_times p (negsuc n) c = product_of p (suc n) c
+-- minus an index, as a residue modulo p
+abbrev pub minus : ℕ → ℤ → ℕ
+minus p (pos n) = opposite_of p (n % p)
+minus p (negsuc n) = suc n % p
 
 -- c_k of a list c_0, c_1, ..
 abbrev pub residue_at : List ℕ → ℕ → ℕ
@@ -27,8 +27,8 @@ term_of seed indices c = record { integral = record { family = seed.family; indi
 abbrev pub denominator_sum : ℕ → Integral → ℕ → List ℕ → ℕ → Integral → ℕ
 denominator_sum p seed width c j x =
     let a = seed.indices in
-    coefficient_at x (term_of seed (raised a j) (minus_times p (index_at a j) (residue_at c 0)))
-    + sum_to width (λ k. coefficient_at x (term_of seed (lowered (raised a j) k) (minus_times p (index_at a j) (residue_at c k))))
+    coefficient_at x (term_of seed (raised a j) (product_of p (minus p (index_at a j)) (residue_at c 0)))
+    + sum_to width (λ k. coefficient_at x (term_of seed (lowered (raised a j) k) (product_of p (minus p (index_at a j)) (residue_at c k))))
 
 -- the sum of the coefficients that x has in all terms: d·[q = i] for I(a), and those of each denominator.
 -- `c j` are the residues of the denominator j

@@ -25,6 +25,7 @@ pub(crate) fn collected(
     ensures row { IfOk result (IsRow modulus.now order) }
     ensures sums { IfOk result (λ row. (x : IntegralValue) → coefficient row x ≡ total_at x terms.items % modulus.now) }
 {
+    let _p = modulus.value();
     let mut terms = terms;
     terms.sort_unstable_by(|x, y| order.compare(&y.integral, &x.integral));
     let mut kept = added_up(alloc, &terms, order, modulus)?;

@@ -2,10 +2,11 @@
 
 ghost use Rattle.std.specs.Prelude.{◌≡◌, ◌+◌, ◌<◌, ℕ, All, length, OnOk};
 ghost use Rattle.integral_index.specs.Integral.{Integral as IntegralValue};
+ghost use Rattle.field_word.specs.Residues.{product_of};
 ghost use Rattle.sparse_row.specs.Terms.{coefficient_at, AllBelow};
 ghost use Rattle.ibp_generator.specs.Sums.{sum_to};
 ghost use Rattle.ibp_generator.specs.Shifts.{lowered, IsRaisedIndex, IsSeedIndex};
-ghost use Rattle.ibp_generator.specs.Equation.{denominator_sum, minus_times, residue_at, term_of};
+ghost use Rattle.ibp_generator.specs.Equation.{denominator_sum, minus, residue_at, term_of};
 ghost use Rattle.ibp_generator.specs.Collecting.{Gains};
 
 use crate::shifts::shifted;
@@ -55,35 +56,36 @@ pub(crate) fn push_denominator(
     ensures gains { OnOk result (Gains zeros.now terms.old.items terms.new.items
         (denominator_sum modulus.now seed.now (length seed.now.indices) residues.now (place + 1))) }
 {
-    let index = seed.indices()[place];
+    let multiplier = minus(seed.indices()[place], modulus);
     let raised = shifted(alloc, seed, place, 1)?;
-    let multiple = minus_times(index, residues[0], modulus);
-    push_term(terms, raised, multiple, zeros)?;
-    push_lowered(alloc, terms, &raised, index, residues, zeros, modulus)
+    push_term(terms, raised, modulus.mul(multiplier, residues[0]), zeros)?;
+    push_lowered(alloc, terms, &raised, multiplier, residues, zeros, modulus)
 }
 
-// Appends the terms of a raised integral, lowered at each place in turn.
+// Appends the terms of a raised integral, lowered at each place in turn: a multiple of each residue
+// from the second on.
 fn push_lowered(
     alloc: Global,
     terms: &mut Vec<Term>,
     raised: &Integral,
-    index: i8,
+    multiplier: u64,
     residues: &[u64],
     zeros: &ZeroSectors,
     modulus: &Modulus,
 ) -> Result<(), OutOfMemory>
     requires residues { length residues.now ≡ length raised.now.indices + 1 }
     requires below_p { All (λ c. c < modulus.now) residues.now }
+    requires multiplier { multiplier < modulus.now }
     requires raised { All IsRaisedIndex raised.now.indices }
     requires below { AllBelow modulus.now terms.old.items }
     ensures below { OnOk result (AllBelow modulus.now terms.new.items) }
     ensures gains { OnOk result (Gains zeros.now terms.old.items terms.new.items
         (λ x. sum_to (length raised.now.indices) (λ k. coefficient_at x (term_of raised.now (lowered raised.now.indices k)
-            (minus_times modulus.now index (residue_at residues.now k)))))) }
+            (product_of modulus.now multiplier (residue_at residues.now k)))))) }
 {
     for k in 0..raised.indices().len() {
-        let multiple = minus_times(index, residues[k + 1], modulus);
-        push_lowered_term(alloc, terms, raised, k, multiple, zeros)?;
+        let coefficient = modulus.mul(multiplier, residues[k + 1]);
+        push_lowered_term(alloc, terms, raised, k, coefficient, zeros)?;
     }
     Ok(())
 }
@@ -109,17 +111,11 @@ fn push_lowered_term(
     push_term(terms, shifted(alloc, raised, place, -1)?, coefficient, zeros)
 }
 
-// Minus an index times a residue.
-fn minus_times(index: i8, residue: u64, modulus: &Modulus) -> u64
-    requires { residue < modulus.now }
-    ensures value { result ≡ minus_times modulus.now index residue }
+// Minus an index, as a residue.
+fn minus(index: i8, modulus: &Modulus) -> u64
+    ensures value { result ≡ minus modulus.now index }
     ensures below { result < modulus.now }
 {
     let size = modulus.reduce(u128::from(index.unsigned_abs()));
-    let product = modulus.mul(size, residue);
-    if index < 0 {
-        product
-    } else {
-        modulus.neg(product)
-    }
+    if index < 0 { size } else { modulus.neg(size) }
 }

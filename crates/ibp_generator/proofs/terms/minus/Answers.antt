@@ -1,9 +1,8 @@
 -- The size of the index is reduced first.
 use Rattle.std.proofs.Common.{◌≡◌, ◌%◌, ◌∙◌, ap, arith, pos, ◌<ℤ◌, ◌≤ℤ◌, unsigned_abs, to_z, of_z, w8}
 use Rattle.std.proofs.lemmas.Int.{ints}
-use Rattle.field_word.specs.Residues.{opposite_of}
-use Rattle.ibp_generator.proofs.SumLemmas.{minus_times-negative, minus_times-positive}
-use Rattle.ibp_generator.proofs.terms.minus_times.Goals as goal
+use Rattle.ibp_generator.proofs.SumLemmas.{minus-negative, minus-positive}
+use Rattle.ibp_generator.proofs.terms.minus.Goals as goal
 
 pub returns-then-index-lt0-clause-value : goal.returns-then-index-lt0-clause-value
 returns-then-index-lt0-clause-value c =
@@ -11,7 +10,7 @@ returns-then-index-lt0-clause-value c =
     let value : to_z w8 (of_z w8 c.args.index) ≡ c.args.index = omega (arith, ints) in
     let size : c.reduce-size.result ≡ unsigned_abs c.args.index % c.args.modulus.now =
         c.reduce-size.ensures.value ∙ ap (λ n. n % c.args.modulus.now) (c.from.ensures ∙ c.unsigned_abs.ensures.value ∙ ap unsigned_abs value) in
-    c.mul-product.ensures.value ∙ minus_times-negative c.args.modulus.now c.args.index c.args.residue c.reduce-size.result below size
+    minus-negative c.args.modulus.now c.args.index c.reduce-size.result below size
 
 pub returns-else-index-lt0-clause-value : goal.returns-else-index-lt0-clause-value
 returns-else-index-lt0-clause-value c =
@@ -19,5 +18,4 @@ returns-else-index-lt0-clause-value c =
     let value : to_z w8 (of_z w8 c.args.index) ≡ c.args.index = omega (arith, ints) in
     let size : c.reduce-size.result ≡ unsigned_abs c.args.index % c.args.modulus.now =
         c.reduce-size.ensures.value ∙ ap (λ n. n % c.args.modulus.now) (c.from.ensures ∙ c.unsigned_abs.ensures.value ∙ ap unsigned_abs value) in
-    c.neg.ensures.value ∙ ap (opposite_of c.args.modulus.now) c.mul-product.ensures.value
-    ∙ minus_times-positive c.args.modulus.now c.args.index c.args.residue c.reduce-size.result above size
+    c.neg.ensures.value ∙ minus-positive c.args.modulus.now c.args.index c.reduce-size.result above size
