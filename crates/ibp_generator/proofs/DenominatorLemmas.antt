@@ -3,7 +3,7 @@ use Rattle.std.proofs.Common.{◌≡◌, ℕ, ◌+◌, ◌∙◌, length, refl, 
 use Rattle.integral_index.specs.Integral.{Integral}
 use Rattle.field_word.specs.Residues.{product_of}
 use Rattle.sparse_row.specs.Terms.{coefficient_at}
-use Rattle.ibp_generator.specs.Sums.{sum_to}
+use Rattle.propagators.specs.Sums.{sum_to}
 use Rattle.ibp_generator.specs.Shifts.{index_at, lowered, raised}
 use Rattle.ibp_generator.specs.Equation.{denominator_sum, minus, residue_at, term_of}
 use Rattle.ibp_generator.proofs.ShiftLemmas.{length-shifted}

@@ -3,3 +3,4 @@ pub mod TermLemmas
 pub mod CollectingLemmas
 pub mod ShiftLemmas
 pub mod DenominatorLemmas
+pub mod EquationLemmas

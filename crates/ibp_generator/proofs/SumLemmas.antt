@@ -3,7 +3,7 @@ use Rattle.std.proofs.Common.{◌≡◌, ℕ, zero, suc, ◌+◌, ◌-◌, ◌*�
 use Rattle.std.proofs.lemmas.Int.{ints}
 use Rattle.std.specs.Int.RustNames.{unsigned_abs}
 use Rattle.field_word.specs.Residues.{opposite_of}
-use Rattle.ibp_generator.specs.Sums.{sum_to}
+use Rattle.propagators.specs.Sums.{sum_to}
 use Rattle.ibp_generator.specs.Equation.{minus}
 
 -- one number more

@@ -7,7 +7,9 @@ use Rattle.integral_index.specs.Integral.{Integral}
 use Rattle.integral_index.specs.Order.{compare}
 use Rattle.sparse_row.specs.declared.Term.{Term}
 use Rattle.sparse_row.specs.Terms.{AllBelow, IsAbove, coefficient_at, total_at}
-use Rattle.ibp_generator.specs.Equation.{unless_zero}
+use Rattle.propagators.specs.Basis.{Basis}
+use Rattle.propagators.specs.Sums.{sum_to}
+use Rattle.ibp_generator.specs.Equation.{AreDerived, denominator_sum, unless_zero}
 
 -- terms from the greatest integral to the least
 abbrev pub downwards : Order → Term → Term → Ordering
@@ -38,3 +40,9 @@ IsLastRaised p old addend new =
 -- to the totals of a list this was added at each integral whose sector isn't zero
 abbrev pub Gains : List ℕ → List Term → List Term → (Integral → ℕ) → Type 0
 Gains zeros old new f = (x : Integral) → total_at x new ≡ total_at x old + unless_zero zeros x (f x)
+
+-- the terms of the first n denominators were appended
+pub record AreAppended (basis : Basis) (i q : ℕ) (seed : Integral) (zeros : List ℕ) (n : ℕ) (old new : List Term) : Type 0 where
+  pub residues : ℕ → List ℕ
+  pub derived : AreDerived basis i q n residues
+  pub gains : Gains zeros old new (λ x. sum_to n (λ j. denominator_sum basis.point.modulus seed (length basis.denominators) (residues j) j x))

@@ -1,4 +1,3 @@
-pub mod Sums
 pub mod Shifts
 pub mod Equation
 pub mod Collecting

@@ -2,5 +2,8 @@
 #![tactic(auto)]
 
 mod collecting;
+mod equations;
 mod shifts;
 mod terms;
+
+pub use equations::equation;

@@ -4,7 +4,7 @@ ghost use Rattle.std.specs.Prelude.{◌≡◌, ◌+◌, ◌<◌, ℕ, All, lengt
 ghost use Rattle.integral_index.specs.Integral.{Integral as IntegralValue};
 ghost use Rattle.field_word.specs.Residues.{product_of};
 ghost use Rattle.sparse_row.specs.Terms.{coefficient_at, AllBelow};
-ghost use Rattle.ibp_generator.specs.Sums.{sum_to};
+ghost use Rattle.propagators.specs.Sums.{sum_to};
 ghost use Rattle.ibp_generator.specs.Shifts.{lowered, IsRaisedIndex, IsSeedIndex};
 ghost use Rattle.ibp_generator.specs.Equation.{denominator_sum, minus, residue_at, term_of};
 ghost use Rattle.ibp_generator.specs.Collecting.{Gains};

@@ -3,7 +3,7 @@ use Rattle.std.proofs.Common.{◌≡◌, ℕ, ◌+◌, ◌∙◌, sym, ap, subst
 use Rattle.integral_index.specs.Integral.{Integral}
 use Rattle.field_word.specs.Residues.{product_of}
 use Rattle.sparse_row.specs.Terms.{coefficient_at}
-use Rattle.ibp_generator.specs.Sums.{sum_to}
+use Rattle.propagators.specs.Sums.{sum_to}
 use Rattle.ibp_generator.specs.Shifts.{lowered}
 use Rattle.ibp_generator.specs.Equation.{residue_at, term_of}
 use Rattle.ibp_generator.specs.Collecting.{Gains}

@@ -1,7 +1,7 @@
 -- The terms of the places so far were appended.
 use Rattle.field_word.specs.Residues.{product_of}
 use Rattle.sparse_row.specs.Terms.{AllBelow, coefficient_at}
-use Rattle.ibp_generator.specs.Sums.{sum_to}
+use Rattle.propagators.specs.Sums.{sum_to}
 use Rattle.ibp_generator.specs.Shifts.{lowered}
 use Rattle.ibp_generator.specs.Equation.{residue_at, term_of}
 use Rattle.ibp_generator.specs.Collecting.{Gains}
