@@ -12,7 +12,9 @@ use Rattle.sparse_row.specs.declared.Term.{Term}
 use Rattle.sparse_row.specs.Row.{Row, IsRow, coefficient}
 use Rattle.sparse_row.specs.Terms.{coefficient_at, total_at}
 use Rattle.ibp_generator.specs.Equation.{AreDerived, IsEquation, denominator_sum, equation_sum, term_of, unless_zero}
+use Rattle.sparse_row.proofs.RowValues.{same_row}
 use Rattle.ibp_generator.specs.Collecting.{AreAppended, Gains}
+use Rattle.ibp_generator.specs.Laws.{OneEquation}
 use Rattle.ibp_generator.proofs.SumLemmas.{sum_to-more, sum_to-same}
 use Rattle.ibp_generator.proofs.TermLemmas.{Gains-more, Gains-none, Gains-same}
 
@@ -105,3 +107,14 @@ IsEquation-made p basis d i q seed zeros order row middle terms positive same fi
 pub if_ok_both : {T E : Type 0} {P Q R : T → Type 0} (r : Result T E) → ((x : T) → P x → Q x → R x) → IfOk r P → IfOk r Q → IfOk r R
 if_ok_both (Ok x) f p q = f x p q
 if_ok_both (Err e) f p q = tt
+
+-- two rows that are the equation are the same
+pub one_equation : OneEquation
+one_equation basis d i q seed zeros order row other h g =
+    let p = basis.point.modulus in
+    let n = length basis.denominators in
+    let same : (x : Integral) → equation_sum p seed n d i q h.residues x ≡ equation_sum p seed n d i q g.residues x =
+        λ x. ap (λ m. coefficient_at x (term_of seed seed.indices (cond (q == i) d 0)) + m)
+            (sum_to-same n (λ j. denominator_sum p seed n (h.residues j) j x) (λ j. denominator_sum p seed n (g.residues j) j x)
+            (λ j low high. ap (λ cs. denominator_sum p seed n cs j x) (g.derived.only j (h.residues j) low high (h.derived.is j low high)))) in
+    same_row p order row other h.is_row g.is_row (λ x. h.sums x ∙ ap (λ m. unless_zero zeros x (m % p)) (same x) ∙ sym (g.sums x))

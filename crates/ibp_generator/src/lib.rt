@@ -3,7 +3,11 @@
 
 mod collecting;
 mod equations;
+pub mod laws;
 mod shifts;
 mod terms;
 
 pub use equations::equation;
+
+#[cfg(test)]
+mod tests;
