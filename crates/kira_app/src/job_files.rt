@@ -1,4 +1,5 @@
-// The files of a job, which have to be those of the tadpole.
+//! The files of a job, which have to be those of the tadpole.
+
 ghost use Rattle.std.specs.Prelude.{◌≡◌, ◌≢◌, ◌≤◌, ◌<◌, ◌^◌, Some, length, OnOk, OnErr, IfErr, IsErrOf};
 ghost use Rattle.std.specs.FinMap.{get};
 ghost use Rattle.kira_outside.specs.Faults.{Rose};

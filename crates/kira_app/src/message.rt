@@ -1,4 +1,5 @@
-// The message of a status.
+//! The message of a status.
+
 ghost use Rattle.std.specs.Prelude.{◌≡◌, ◌++◌, ◌≤◌, codes, decimal, option_map, OnOk, OnErr};
 ghost use Rattle.kira_outside.specs.Faults.{Rose};
 ghost use Rattle.kira_outside.specs.Stream.{appended};

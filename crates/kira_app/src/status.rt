@@ -1,4 +1,5 @@
-// How a call ends.
+//! How a call ends.
+
 ghost use Rattle.std.specs.Prelude.{◌≡◌};
 ghost use Rattle.kira_app.specs.Message.{exit_code_of};
 

@@ -1,4 +1,5 @@
-// The equations of the one-loop tadpole, and what is selected of it.
+//! The equations of the one-loop tadpole, and what is selected of it.
+
 ghost use Rattle.std.specs.Prelude.{◌≡◌, ◌≤◌, ◌<◌, IfOk, All};
 ghost use Rattle.sparse_row.specs.Row.{IsRow};
 ghost use Rattle.kira_app.specs.Tadpole.{tadpole, tadpole_equation, tadpole_equations, tadpole_selection};

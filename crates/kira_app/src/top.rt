@@ -1,4 +1,5 @@
-// The call that the program makes.
+//! The call that the program makes.
+
 ghost use Rattle.std.specs.Prelude.{◌≡◌, ◌≢◌, ◌⊎◌, ◌≤◌, ◌<◌, ◌∷◌, [], codes, Some, None, map, option_map, IfOk, OnOk, OnErr, IfErr, IsErrOf, IsSome};
 ghost use Rattle.std.specs.String.{string_bytes};
 ghost use Rattle.kira_outside.specs.Faults.{Rose};
@@ -17,7 +18,8 @@ use crate::tadpole_job::{tadpole_equations, tadpole_selection};
 use crate::words::{Request, read_words};
 use crate::{Status, tell};
 use integral_index::{Order, ZeroSectors};
-use kira_outside::{Files, Sink, Text8};
+use kinematics::Name;
+use kira_outside::{Files, Sink};
 use out_of_memory::OutOfMemory;
 use reduction_core::{ForwardFault, Table, reduce_plain};
 use std::alloc::Global;
@@ -48,9 +50,19 @@ fn tadpole_text(alloc: Global, table: &Table) -> Result<Vec<u8>, OutOfMemory>
     ensures { IfOk result (λ bytes. bytes.items ≡ table_text (name_of (codes "tad" ∷ [])) (zeros_of ([] ∷ [])) table.now tadpole_selection) }
 {
     let selection = tadpole_selection(alloc)?;
-    let names = [Text8::new(alloc, "tad")?];
+    let names = [tadpole_name(alloc)?];
     let zeros = [ZeroSectors::new(alloc, &[])?];
     text(alloc, table, &names, &zeros, &selection)
+}
+
+// The name of the tadpole's family.
+fn tadpole_name(alloc: Global) -> Result<Name, OutOfMemory>
+    ensures { IfOk result (λ name. name ≡ codes "tad") }
+{
+    match Name::new(alloc, "tad")? {
+        Some(name) => Ok(name),
+        None => unreachable!(),
+    }
 }
 
 // The whole of the call but for its message.

@@ -1,4 +1,5 @@
-// The words of a call.
+//! The words of a call.
+
 ghost use Rattle.std.specs.Prelude.{◌≡◌, ◌≤◌, option_map, map};
 ghost use Rattle.std.specs.String.{string_bytes};
 ghost use Rattle.kira_app.specs.Words.{number_of, given_once, with_word, with_words, no_settings, request_of_settings, request_of};

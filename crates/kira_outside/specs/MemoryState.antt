@@ -1,5 +1,5 @@
 -- What the forms in memory are seen as. The project's own.
-use Rattle.std.specs.Prelude.{ℕ, ◌+◌, ◌<◌, ◌⊎◌, List, map, length, min, Contains, refl}
+use Rattle.std.specs.Prelude.{◌≡◌, ℕ, ◌+◌, ◌<◌, ◌⊎◌, List, map, length, min, Contains, refl}
 use Rattle.std.specs.Coded.{Coded, code_by, coded×, coded_ℕ, coded_list}
 use Rattle.std.specs.FinMap as finite
 use Rattle.kira_outside.specs.Faults.{one_more}
@@ -45,6 +45,12 @@ held_of entries = finite.from_entries (map named entries)
 -- the number of the call that is made now is one of those that fail
 abbrev pub IsFailing : List ℕ → ℕ → Type 0
 IsFailing failing calls = Contains failing (one_more calls)
+
+-- what a sink was made with stays
+pub record IsMadeAs (old new : SinkInMemory) : Type 0 where
+  pub failing : new.failing ≡ old.failing
+  pub piece : new.piece ≡ old.piece
+  pub room : new.room ≡ old.room
 
 -- a write of so many bytes is one that fails, or its piece would pass the room
 abbrev pub WriteFails : SinkInMemory → ℕ → Type 0

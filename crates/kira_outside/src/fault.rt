@@ -1,4 +1,5 @@
-// The answers of calls that reach outside.
+//! The answers of calls that reach outside.
+
 use thiserror::Error;
 
 /// A read, a write or a flush failed, and the count of faults of its object rose in the call.

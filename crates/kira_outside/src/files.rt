@@ -1,7 +1,8 @@
-// Files by their names, of which the program only reads.
+//! Files by their names, of which the program only reads.
+
 ghost use Rattle.std.specs.Prelude.{◌≡◌, ◌≤◌, ℕ, Option, length, IfOk, OnOk, IsErrOf};
 ghost use Rattle.kira_outside.specs.Faults.{Rose};
-ghost use Rattle.kira_outside.specs.Held.{Held, LoadGives, LacksName};
+ghost use Rattle.kira_outside.specs.Held.{Held, HoldsName, LoadGives, LacksName};
 
 use crate::LoadFault;
 use std::alloc::Global;
@@ -14,11 +15,13 @@ pub trait Files {
     /// How often a call has failed. At its last value, 2 ^ 64 - 1, it stays.
     ghost faults: { Self → ℕ };
 
-    /// The first `most` bytes of the file, or all where it has fewer.
+    /// The first `most` bytes of the file, or all where it has fewer. Where the names are told, it is
+    /// `Missing` exactly where the name isn't held and the call doesn't answer `Failed`.
     fn load(&mut self, alloc: Global, name: &str, most: usize) -> Result<Vec<u8>, LoadFault>
         ensures bytes { IfOk result (λ bytes. LoadGives (held self.old) name.now most bytes.items) }
         ensures at_most { IfOk result (λ bytes. length bytes.items ≤ most) }
         ensures missing { IsErrOf result LoadFault.Missing → LacksName (faults self.old) (faults self.new) (held self.old) name.now }
+        ensures memory { IsErrOf result LoadFault.OutOfMemory → HoldsName (held self.old) name.now }
         ensures same { held self.new ≡ held self.old }
         ensures failed { IsErrOf result LoadFault.Failed → Rose (faults self.old) (faults self.new) }
         ensures ok_count { OnOk result (faults self.new ≡ faults self.old) }

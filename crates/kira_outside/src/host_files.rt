@@ -1,4 +1,5 @@
-// The folder in which the program was started: the trusted edge.
+//! The folder in which the program was started: the trusted edge.
+
 ghost use Rattle.std.specs.Prelude.{◌≡◌, ◌≤◌, length, IfOk};
 
 use crate::{Files, LoadFault};

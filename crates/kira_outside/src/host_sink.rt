@@ -1,4 +1,5 @@
-// A standard stream of the host: the trusted edge.
+//! A standard stream of the host: the trusted edge.
+
 ghost use Rattle.std.specs.Prelude.{◌≡◌};
 
 use crate::{Failed, Sink};

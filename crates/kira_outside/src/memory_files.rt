@@ -1,8 +1,9 @@
-// Files in memory, which tell all that they hold.
-ghost use Rattle.std.specs.Prelude.{◌≡◌, ◌≤◌, ◌↔◌, ◌≢◌, Some, length, take, option_map, IfOk, OnOk, OnErr, IsErrOf};
+//! Files in memory, which tell all that they hold.
+
+ghost use Rattle.std.specs.Prelude.{◌≡◌, ◌≤◌, ◌↔◌, ◌≢◌, Some, length, take, option_map, IfOk, OnOk, OnErr, IsErrOf, IsSome};
 ghost use Rattle.std.specs.FinMap.{get};
-ghost use Rattle.kira_outside.specs.Faults.{Rose};
-ghost use Rattle.kira_outside.specs.Held.{LoadGives, LacksName};
+ghost use Rattle.kira_outside.specs.Faults.{Rose, one_more};
+ghost use Rattle.kira_outside.specs.Held.{HoldsName, LoadGives, LacksName};
 ghost use Rattle.kira_outside.specs.MemoryState.{held_of};
 
 use crate::{Files, LoadFault, Text8};
@@ -62,13 +63,17 @@ impl Files for MemoryFiles {
         ensures bytes { IfOk result (λ bytes. LoadGives (Some self.old.held) name.now most bytes.items) }
         ensures at_most { IfOk result (λ bytes. length bytes.items ≤ most) }
         ensures missing { IsErrOf result LoadFault.Missing → LacksName self.old.faults self.new.faults (Some self.old.held) name.now }
+        ensures memory { IsErrOf result LoadFault.OutOfMemory → HoldsName (Some self.old.held) name.now }
         ensures same { Some self.new.held ≡ Some self.old.held }
         ensures failed { IsErrOf result LoadFault.Failed → Rose self.old.faults self.new.faults }
         ensures ok_count { OnOk result (self.new.faults ≡ self.old.faults) }
         ensures never_falls { self.old.faults ≤ self.new.faults }
 
-        // It fails by its list alone.
+        // It fails by its list alone, counts no other fault, and each call has the next number.
         ensures listed { IsErrOf result LoadFault.Failed ↔ IsFailing self.old.failing self.old.calls }
+        ensures counted { ¬ (IsFailing self.old.failing self.old.calls) → self.new.faults ≡ self.old.faults }
+        ensures numbered { self.new.calls ≡ one_more self.old.calls }
+        ensures list { self.new.failing ≡ self.old.failing }
     {
         self.calls = self.calls.saturating_add(1);
         if self.failing.contains(&self.calls) {
@@ -89,6 +94,7 @@ fn load_entry(
     ensures bytes { IfOk result (λ bytes. LoadGives (Some (held_of entries.now)) name.now most bytes.items) }
     ensures at_most { IfOk result (λ bytes. length bytes.items ≤ most) }
     ensures missing { IsErrOf result LoadFault.Missing → get (held_of entries.now) name.now ≡ None }
+    ensures memory { IsErrOf result LoadFault.OutOfMemory → IsSome (get (held_of entries.now) name.now) }
     ensures not_failed { result ≢ Err LoadFault.Failed }
 {
     match find_entry(entries, name) {

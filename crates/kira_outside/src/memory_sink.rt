@@ -1,6 +1,7 @@
-// A sink in memory, which tells all that it was given.
-ghost use Rattle.std.specs.Prelude.{◌≡◌, ◌≤◌, ◌<◌, ◌↔◌, ℕ, [], length, take, option_map, IfOk, OnOk, OnErr, IsErr};
-ghost use Rattle.kira_outside.specs.Faults.{Rose};
+//! A sink in memory, which tells all that it was given.
+
+ghost use Rattle.std.specs.Prelude.{◌≡◌, ◌≤◌, ◌<◌, ◌↔◌, ℕ, [], length, min, take, option_map, IfOk, OnOk, OnErr, IsErr};
+ghost use Rattle.kira_outside.specs.Faults.{Rose, one_more};
 ghost use Rattle.kira_outside.specs.Stream.{appended, all_flushed};
 
 use crate::{Failed, Sink};
@@ -67,7 +68,7 @@ impl MemorySink {
 
 impl Sink for MemorySink {
     ghost use Rattle.std.specs.Prelude.{Some};
-    ghost use Rattle.kira_outside.specs.MemoryState.{IsFailing, WriteFails};
+    ghost use Rattle.kira_outside.specs.MemoryState.{IsFailing, IsMadeAs, WriteFails};
 
     ghost told = { λ sink. Some sink.stream };
 
@@ -82,8 +83,12 @@ impl Sink for MemorySink {
         ensures ok_count { OnOk result (self.new.faults ≡ self.old.faults) }
         ensures never_falls { self.old.faults ≤ self.new.faults }
 
-        // It fails by its list and its room alone.
+        // It takes as much as a piece holds, fails by its list and its room alone, counts no other
+        // fault, and each call has the next number.
+        ensures piece { IfOk result (λ count. count ≡ min self.old.piece (length bytes.now)) }
         ensures listed { IsErr result ↔ WriteFails self.old (length bytes.now) }
+        ensures numbered { self.new.calls ≡ one_more self.old.calls }
+        ensures kept { IsMadeAs self.old self.new }
     {
         self.calls = self.calls.saturating_add(1);
         let count = self.piece.min(bytes.len());
@@ -105,8 +110,10 @@ impl Sink for MemorySink {
         ensures ok_count { OnOk result (self.new.faults ≡ self.old.faults) }
         ensures never_falls { self.old.faults ≤ self.new.faults }
 
-        // It fails by its list alone.
+        // It fails by its list alone, and each call has the next number.
         ensures listed { IsErr result ↔ IsFailing self.old.failing self.old.calls }
+        ensures numbered { self.new.calls ≡ one_more self.old.calls }
+        ensures kept { IsMadeAs self.old self.new }
     {
         self.calls = self.calls.saturating_add(1);
         if self.failing.contains(&self.calls) {

@@ -1,4 +1,5 @@
-// A stream of bytes that the program writes.
+//! A stream of bytes that the program writes.
+
 ghost use Rattle.std.specs.Prelude.{◌≡◌, ◌≤◌, ◌<◌, ℕ, Option, length, take, option_map, IfOk, OnOk, OnErr};
 ghost use Rattle.kira_outside.specs.Faults.{Rose};
 ghost use Rattle.kira_outside.specs.Stream.{Stream, appended, all_flushed};

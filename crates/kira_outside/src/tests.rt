@@ -1,4 +1,5 @@
-// What no clause says: that calls succeed, and what the host's forms do over real files.
+//! What no clause says: that calls succeed, and what the host's forms do over real files.
+
 use super::*;
 use std::alloc::Global;
 use std::fs;

@@ -1,4 +1,5 @@
-// A text of a name, which owns its bytes.
+//! A text of a name, which owns its bytes.
+
 ghost use Rattle.std.specs.Prelude.{◌≡◌, IfOk};
 
 use out_of_memory::OutOfMemory;

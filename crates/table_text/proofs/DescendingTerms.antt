@@ -24,7 +24,7 @@ ties_too R S same total x y e = ap is_eq (ap (S x) (sym (same x y ((Equal-is (R 
 
 module _ {K X : Type 0} (R S : K → K → Ordering) (total_r : IsTotalOrder R) (same_r : IsAntisymmetric R) (total_s : IsTotalOrder S) (same_s : IsAntisymmetric S) where
   -- a search finds the same under both
-  find-other : (q : K) (es : List (K × X)) → find R q es ≡ find S q es
+  pub find-other : (q : K) (es : List (K × X)) → find R q es ≡ find S q es
   find-other q [] = refl
   find-other q (e ∷ es) =
       let tie : eq_by_cmp R q e.0 ≡ eq_by_cmp S q e.0 = both_ways _ _ (ties_too R S same_r total_s q e.0) (ties_too S R same_s total_r q e.0) in

@@ -4,3 +4,7 @@ pub mod PiecesLemmas
 pub mod DescendingTerms
 pub mod DistinctLemmas
 pub mod FoundMasters
+pub mod Cutting
+pub mod ReadPieces
+pub mod ReadLines
+pub mod TextLaws

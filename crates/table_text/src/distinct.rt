@@ -1,4 +1,5 @@
-// The integrals that rows show, ascending, each once.
+//! The integrals that rows show, ascending, each once.
+
 ghost use Rattle.std.specs.Prelude.{◌≡◌, ◌++◌, ◌↔◌, Contains, AllPairs, IsTrue, IfOk, OnOk};
 ghost use Rattle.std.specs.List.Sorted.{IsSorted};
 ghost use Rattle.integral_index.specs.Integral.{Integral as IntegralValue};

@@ -1,4 +1,5 @@
-// The pieces of a table's text, each appended to what was written before.
+//! The pieces of a table's text, each appended to what was written before.
+
 ghost use Rattle.std.specs.Prelude.{◌≡◌, ◌++◌, codes, map, decimal, OnOk};
 ghost use Rattle.std.specs.Fmt.{signed_decimal};
 ghost use Rattle.std.specs.List.{join_by};
@@ -7,14 +8,14 @@ ghost use Rattle.table_text.specs.Pieces.{descending_terms, integral_text, line_
 
 use integral_index::Integral;
 use itoa::Buffer;
-use kira_outside::Text8;
+use kinematics::Name;
 use out_of_memory::OutOfMemory;
 use sparse_row::{Row, Term};
 
 /// Appends an integral, whose family has the name at its place.
 pub(crate) fn push_integral(
     text: &mut Vec<u8>,
-    names: &[Text8],
+    names: &[Name],
     integral: &Integral,
 ) -> Result<(), OutOfMemory>
     ensures { OnOk result (text.new.items ≡ text.old.items ++ integral_text (name_of names.now integral.now.family) integral.now) }
@@ -27,7 +28,7 @@ pub(crate) fn push_integral(
 }
 
 // The name of a family by its place, and no byte past the last.
-fn family_name(names: &[Text8], family: u32) -> &str
+fn family_name(names: &[Name], family: u32) -> &str
     ensures { result.now ≡ name_of names.now family }
 {
     match names.get(family as usize) {
@@ -68,7 +69,7 @@ fn push_index(text: &mut Vec<u8>, index: &i8) -> Result<(), OutOfMemory>
 /// Appends the terms joined by plus signs, and 0 where there is none.
 pub(crate) fn push_sum(
     text: &mut Vec<u8>,
-    names: &[Text8],
+    names: &[Name],
     terms: &[Term],
 ) -> Result<(), OutOfMemory>
     ensures { OnOk result (text.new.items ≡ text.old.items ++ sum_text (name_of names.now) (map entry_of terms.now)) }
@@ -84,14 +85,14 @@ pub(crate) fn push_sum(
     Ok(())
 }
 
-fn push_further_term(text: &mut Vec<u8>, names: &[Text8], term: &Term) -> Result<(), OutOfMemory>
+fn push_further_term(text: &mut Vec<u8>, names: &[Name], term: &Term) -> Result<(), OutOfMemory>
     ensures { OnOk result (text.new.items ≡ text.old.items ++ (codes " + " ++ term_text (name_of names.now) (entry_of term.now))) }
 {
     text.extend_from_slice(b" + ")?;
     push_term(text, names, term)
 }
 
-fn push_term(text: &mut Vec<u8>, names: &[Text8], term: &Term) -> Result<(), OutOfMemory>
+fn push_term(text: &mut Vec<u8>, names: &[Name], term: &Term) -> Result<(), OutOfMemory>
     ensures { OnOk result (text.new.items ≡ text.old.items ++ term_text (name_of names.now) (entry_of term.now)) }
 {
     push_number(text, term.coefficient)?;
@@ -111,7 +112,7 @@ pub(crate) fn push_number(text: &mut Vec<u8>, number: u64) -> Result<(), OutOfMe
 /// Appends a line: an integral, and what it equals.
 pub(crate) fn push_line(
     text: &mut Vec<u8>,
-    names: &[Text8],
+    names: &[Name],
     integral: &Integral,
     form: &Row,
 ) -> Result<(), OutOfMemory>
@@ -125,7 +126,7 @@ pub(crate) fn push_line(
 }
 
 // Appends the terms of a row.
-fn push_form(text: &mut Vec<u8>, names: &[Text8], form: &Row) -> Result<(), OutOfMemory>
+fn push_form(text: &mut Vec<u8>, names: &[Name], form: &Row) -> Result<(), OutOfMemory>
     ensures { OnOk result (text.new.items ≡ text.old.items ++ sum_text (name_of names.now) (descending_terms form.now)) }
 {
     push_sum(text, names, form.terms())?;

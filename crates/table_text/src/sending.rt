@@ -1,4 +1,5 @@
-// Bytes sent to a sink, in whatever pieces it takes.
+//! Bytes sent to a sink, in whatever pieces it takes.
+
 ghost use Rattle.std.specs.Prelude.{◌≡◌, ◌≤◌, option_map, OnOk, OnErr};
 ghost use Rattle.kira_outside.specs.Faults.{Rose};
 ghost use Rattle.kira_outside.specs.Stream.{appended, all_flushed};

@@ -1,4 +1,5 @@
-// The whole text of a table, and its masters.
+//! The whole text of a table, and its masters.
+
 ghost use Rattle.std.specs.Prelude.{◌≡◌, ◌++◌, ◌<◌, length, codes, All, IfOk, OnOk};
 ghost use Rattle.std.specs.List.{flat_map};
 ghost use Rattle.sparse_row.specs.Row.{IsRow};
@@ -9,7 +10,7 @@ ghost use Rattle.table_text.specs.TableText.{form_of, masters_text, table_text, 
 use crate::distinct::{ascending, push_shown};
 use crate::pieces::{push_integral, push_line, push_number};
 use integral_index::{Integral, ZeroSectors};
-use kira_outside::Text8;
+use kinematics::Name;
 use out_of_memory::OutOfMemory;
 use reduction_core::Table;
 use sparse_row::Row;
@@ -20,7 +21,7 @@ use std::alloc::Global;
 pub fn text(
     alloc: Global,
     table: &Table,
-    names: &[Text8],
+    names: &[Name],
     zeros: &[ZeroSectors],
     selection: &[Integral],
 ) -> Result<Vec<u8>, OutOfMemory>
@@ -60,7 +61,7 @@ pub fn masters(
 // Appends how many masters there are, and a line for each.
 fn push_masters(
     text: &mut Vec<u8>,
-    names: &[Text8],
+    names: &[Name],
     masters: &[Integral],
 ) -> Result<(), OutOfMemory>
     ensures { OnOk result (text.new.items ≡ text.old.items ++ masters_text (name_of names.now) masters.now) }
@@ -74,7 +75,7 @@ fn push_masters(
 // Appends a line for each integral.
 fn push_integrals(
     text: &mut Vec<u8>,
-    names: &[Text8],
+    names: &[Name],
     integrals: &[Integral],
 ) -> Result<(), OutOfMemory>
     ensures { OnOk result (text.new.items ≡ text.old.items
@@ -88,7 +89,7 @@ fn push_integrals(
 
 fn push_integral_line(
     text: &mut Vec<u8>,
-    names: &[Text8],
+    names: &[Name],
     integral: &Integral,
 ) -> Result<(), OutOfMemory>
     ensures { OnOk result (text.new.items ≡ text.old.items

@@ -1,0 +1,4 @@
+pub mod Shifts
+pub mod Equation
+pub mod Collecting
+pub mod Laws

@@ -1,0 +1,13 @@
+//! The equations of integration by parts.
+#![tactic(auto)]
+
+mod collecting;
+mod equations;
+pub mod laws;
+mod shifts;
+mod terms;
+
+pub use equations::equation;
+
+#[cfg(test)]
+mod tests;

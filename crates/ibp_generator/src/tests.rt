@@ -1,0 +1,330 @@
+//! Equations of the one-loop bubble, the one-loop triangle and a two-loop vacuum diagram modulo 101. The
+//! bubble's were worked by hand, the others by a script that solves for the denominators on its own.
+
+ghost use Rattle.std.specs.Prelude.{◌≡◌, ◌≤◌, ◌↔◌, All, IsTrue, IfOk};
+ghost use Rattle.kinematics.specs.Rules.{IsRule};
+ghost use Rattle.propagators.specs.Denominators.{IsDenominator};
+ghost use Rattle.ibp_generator.specs.Shifts.{IsSeedIndex};
+
+use super::*;
+use field_word::Modulus;
+use integral_index::{Integral, Order, ZeroSectors, is_index_list};
+use kinematics::{Momentum, Point, Rule, point};
+use out_of_memory::OutOfMemory;
+use propagators::{Basis, Denominator, family};
+use sparse_row::Row;
+use std::alloc::Global;
+use std::test::Fail;
+
+// What a helper of the tests may answer.
+#[derive(Debug, Drop)]
+enum Wrong {
+    Momentum,
+    Rules,
+    Denominators,
+    Seed,
+    Point,
+    Basis,
+    OutOfMemory,
+}
+
+impl From<OutOfMemory> for Wrong {
+    fn from(_refused: OutOfMemory) -> Wrong {
+        Wrong::OutOfMemory
+    }
+}
+
+fn momentum(alloc: Global, coefficients: &[i16]) -> Result<Momentum, Wrong> {
+    if !coefficients.iter().all(|c| -1000 <= *c && *c <= 1000) {
+        return Err(Wrong::Momentum);
+    }
+    Ok(Momentum::new(alloc, coefficients)?)
+}
+
+fn square(alloc: Global, coefficients: &[i16], mass: u64) -> Result<Denominator, Wrong> {
+    Ok(Denominator::Square {
+        momentum: momentum(alloc, coefficients)?,
+        mass,
+    })
+}
+
+// The rule that the square of a sum of external momenta has this value.
+fn rule(alloc: Global, coefficients: &[i16], value: u64) -> Result<Rule, Wrong> {
+    Ok(Rule {
+        left: momentum(alloc, coefficients)?,
+        right: momentum(alloc, coefficients)?,
+        value,
+    })
+}
+
+fn is_rule(rule: &Rule, externals: u32, modulus: &Modulus) -> bool
+    ensures { IsTrue result → IsRule modulus.now externals rule.now }
+{
+    let size = externals as usize;
+    rule.left.coefficients().len() == size
+        && rule.right.coefficients().len() == size
+        && rule.value < modulus.value()
+}
+
+fn are_rules(rules: &[Rule], externals: u32, modulus: &Modulus) -> bool
+    ensures { IsTrue result → All (IsRule modulus.now externals) rules.now }
+{
+    for rule in rules {
+        if !is_rule(rule, externals, modulus) {
+            return false;
+        }
+    }
+    true
+}
+
+fn point_of(
+    alloc: Global,
+    rules: &[Rule],
+    externals: u32,
+    modulus: &Modulus,
+) -> Result<Point, Wrong>
+    requires { externals ≤ 6 }
+    ensures modulus { IfOk result (λ point. point.modulus ≡ modulus.now) }
+    ensures externals { IfOk result (λ point. point.externals ≡ externals) }
+{
+    if !are_rules(rules, externals, modulus) {
+        return Err(Wrong::Rules);
+    }
+    match point(alloc, rules, externals, modulus) {
+        Ok(found) => Ok(found),
+        Err(_) => Err(Wrong::Point),
+    }
+}
+
+fn is_denominator(denominator: &Denominator, width: usize, modulus: &Modulus) -> bool
+    ensures { IsTrue result → IsDenominator modulus.now width denominator.now }
+{
+    match denominator {
+        Denominator::Square { momentum, mass } => {
+            momentum.coefficients().len() == width && *mass < modulus.value()
+        }
+        Denominator::Bilinear { left, right, mass } => {
+            left.coefficients().len() == width
+                && right.coefficients().len() == width
+                && *mass < modulus.value()
+        }
+    }
+}
+
+fn are_denominators(denominators: &[Denominator], width: usize, modulus: &Modulus) -> bool
+    ensures { IsTrue result → All (IsDenominator modulus.now width) denominators.now }
+{
+    for denominator in denominators {
+        if !is_denominator(denominator, width, modulus) {
+            return false;
+        }
+    }
+    true
+}
+
+// The basis of the denominators, where there are 2 or 3 of them.
+fn basis_of(
+    alloc: Global,
+    loops: u32,
+    denominators: &[Denominator],
+    point: &Point,
+    modulus: &Modulus,
+) -> Result<Basis, Wrong>
+    requires { point.now.modulus ≡ modulus.now }
+    ensures { IfOk result (λ basis. basis.point.modulus ≡ modulus.now) }
+{
+    let externals = point.externals();
+    let count = loops as usize * (loops as usize + 1) / 2 + loops as usize * externals as usize;
+    if loops < 1
+        || 6 < loops
+        || 3 < denominators.len()
+        || denominators.len() != count
+        || !are_denominators(denominators, loops as usize + externals as usize, modulus)
+    {
+        return Err(Wrong::Denominators);
+    }
+    match family(alloc, loops, denominators, point, modulus) {
+        Ok(basis) => Ok(basis),
+        Err(_) => Err(Wrong::Basis),
+    }
+}
+
+fn is_seed(indices: &[i8]) -> bool
+    ensures { IsTrue result ↔ All IsSeedIndex indices.now }
+{
+    indices.iter().all(|index| is_seed_index(*index))
+}
+
+fn is_seed_index(index: i8) -> bool
+    ensures { IsTrue result ↔ IsSeedIndex index }
+{
+    index.unsigned_abs() <= 100
+}
+
+fn integral(alloc: Global, indices: &[i8]) -> Result<Integral, Wrong> {
+    if !is_index_list(indices) {
+        return Err(Wrong::Seed);
+    }
+    Ok(Integral::new(alloc, 4, indices)?)
+}
+
+// The equation of a seed of family 4 for dimension 7: its integrals, with one loop momentum and one momentum.
+#[derive(Clone, Copy)]
+struct Asked<'a> {
+    seed: &'a [i8],
+    loop_number: u32,
+    momentum_number: u32,
+    zeros: &'a [u32],
+}
+
+fn equation_of(
+    alloc: Global,
+    basis: &Basis,
+    asked: &Asked,
+    modulus: &Modulus,
+) -> Result<Row, Wrong>
+    requires { basis.now.point.modulus ≡ modulus.now }
+{
+    let zeros = ZeroSectors::new(alloc, asked.zeros)?;
+    if !is_index_list(asked.seed)
+        || !is_seed(asked.seed)
+        || asked.seed.len() != basis.width() as usize
+        || asked.loop_number < 1
+        || basis.loops() < asked.loop_number
+        || asked.momentum_number < 1
+        || basis.loops() + basis.externals() < asked.momentum_number
+    {
+        return Err(Wrong::Seed);
+    }
+    Ok(equation(
+        alloc,
+        basis,
+        modulus.reduce(7),
+        &Integral::new(alloc, 4, asked.seed)?,
+        asked.loop_number,
+        asked.momentum_number,
+        &zeros,
+        Order::Standard,
+        modulus,
+    )?)
+}
+
+// Whether the row has just these terms, from the greatest integral to the least.
+fn has_terms(alloc: Global, row: &Row, terms: &[(&[i8], u64)]) -> Result<bool, Wrong> {
+    let found = row.terms();
+    if found.len() != terms.len() {
+        return Ok(false);
+    }
+    for k in 0..found.len() {
+        if found[k].integral != integral(alloc, terms[k].0)? || found[k].coefficient != terms[k].1 {
+            return Ok(false);
+        }
+    }
+    Ok(true)
+}
+
+fn gives(
+    alloc: Global,
+    basis: &Basis,
+    asked: Asked,
+    modulus: &Modulus,
+    terms: &[(&[i8], u64)],
+) -> Result<bool, Wrong>
+    requires { basis.now.point.modulus ≡ modulus.now }
+{
+    has_terms(alloc, &equation_of(alloc, basis, &asked, modulus)?, terms)
+}
+
+fn ask<'a>(seed: &'a [i8], loop_number: u32, momentum_number: u32, zeros: &'a [u32]) -> Asked<'a> {
+    Asked {
+        seed,
+        loop_number,
+        momentum_number,
+        zeros,
+    }
+}
+
+// k1 and k1 + p1, massless, with p1 p1 = 5: the derivative times k1 is 2 D1 and D1 + D2 - 5, that times p1
+// is D2 - D1 - 5 and D2 - D1 + 5.
+#[test]
+fn equations_of_the_bubble(rt: HostRuntime) -> Result<(), Fail> {
+    let alloc = rt.alloc();
+    let modulus = Modulus::new(101)?;
+    let point = point_of(alloc, &[rule(alloc, &[1], 5)?], 1, &modulus)?;
+    let denominators = [square(alloc, &[1, 0], 0)?, square(alloc, &[1, 1], 0)?];
+    let basis = basis_of(alloc, 1, &denominators, &point, &modulus)?;
+
+    let rows: [(&[i8], u32, &[u32], &[(&[i8], u64)]); 7] = [
+        (&[1, 1], 1, &[], &[(&[1, 2], 5), (&[1, 1], 4), (&[0, 2], 100)]),
+        (&[1, 1], 1, &[1, 2], &[(&[1, 2], 5), (&[1, 1], 4)]),
+        // the two terms of I(1,1) cancel
+        (&[1, 1], 2, &[], &[(&[2, 1], 5), (&[1, 2], 96), (&[0, 2], 1), (&[2, 0], 100)]),
+        (&[1, 1], 2, &[1, 2], &[(&[2, 1], 5), (&[1, 2], 96)]),
+        (&[2, -1], 1, &[], &[(&[2, -1], 4), (&[2, 0], 96), (&[1, 0], 1)]),
+        (&[100, -100], 2, &[], &[(&[101, -101], 1), (&[101, -100], 96), (&[100, -100], 99), (&[100, -99], 96), (&[99, -99], 1)]),
+        (&[1, 1], 2, &[3], &[]),
+    ];
+    for (seed, momentum, zeros, terms) in rows {
+        assert!(rt; gives(alloc, &basis, ask(seed, 1, momentum, zeros), &modulus, terms)?);
+    }
+    Ok(())
+}
+
+// k1, k1 + p1 and k1 + p1 + p2, massless, with massless p1 and p2, and (p1 + p2)² = 5.
+#[test]
+fn equations_of_the_triangle(rt: HostRuntime) -> Result<(), Fail> {
+    let alloc = rt.alloc();
+    let modulus = Modulus::new(101)?;
+    let rules = [
+        rule(alloc, &[1, 0], 0)?,
+        rule(alloc, &[0, 1], 0)?,
+        rule(alloc, &[1, 1], 5)?,
+    ];
+    let point = point_of(alloc, &rules, 2, &modulus)?;
+    let denominators = [
+        square(alloc, &[1, 0, 0], 0)?,
+        square(alloc, &[1, 1, 0], 0)?,
+        square(alloc, &[1, 1, 1], 0)?,
+    ];
+    let basis = basis_of(alloc, 1, &denominators, &point, &modulus)?;
+
+    let rows: [(&[i8], u32, &[u32], &[(&[i8], u64)]); 4] = [
+        (&[1, 1, 1], 1, &[], &[(&[1, 1, 2], 5), (&[1, 1, 1], 3), (&[0, 2, 1], 100), (&[0, 1, 2], 100)]),
+        (&[1, 1, 1], 2, &[], &[(&[1, 1, 2], 96), (&[0, 2, 1], 1), (&[0, 1, 2], 1), (&[2, 0, 1], 100), (&[1, 0, 2], 100)]),
+        // sector 4 is zero as a subsector of 5, and so is 1
+        (&[1, 1, 1], 3, &[5], &[(&[2, 1, 1], 5), (&[2, 1, 0], 100), (&[1, 2, 0], 100)]),
+        (&[2, 0, -1], 3, &[], &[(&[3, 0, -2], 99), (&[3, -1, -1], 2), (&[3, 0, -1], 10), (&[2, 0, -1], 1), (&[2, -1, 0], 100)]),
+    ];
+    for (seed, momentum, zeros, terms) in rows {
+        assert!(rt; gives(alloc, &basis, ask(seed, 1, momentum, zeros), &modulus, terms)?);
+    }
+    Ok(())
+}
+
+// k1 with the squared mass 3, k2, and the bilinear k1 (k1 + k2), without external momenta.
+#[test]
+fn equations_of_a_vacuum_diagram(rt: HostRuntime) -> Result<(), Fail> {
+    let alloc = rt.alloc();
+    let modulus = Modulus::new(101)?;
+    let point = point_of(alloc, &[], 0, &modulus)?;
+    let denominators = [
+        square(alloc, &[1, 0], 3)?,
+        square(alloc, &[0, 1], 0)?,
+        Denominator::Bilinear {
+            left: momentum(alloc, &[1, 0])?,
+            right: momentum(alloc, &[1, 1])?,
+            mass: 0,
+        },
+    ];
+    let basis = basis_of(alloc, 2, &denominators, &point, &modulus)?;
+
+    let rows: [(&[i8], u32, u32, &[(&[i8], u64)]); 3] = [
+        (&[1, 1, 1], 1, 1, &[(&[2, 1, 1], 95), (&[1, 1, 2], 98), (&[1, 1, 1], 4), (&[0, 1, 2], 100)]),
+        (&[1, 1, 1], 1, 2, &[(&[2, 1, 1], 6), (&[1, 1, 2], 6), (&[0, 1, 2], 2), (&[1, 0, 2], 100), (&[2, 1, 0], 99)]),
+        (&[1, 2, -1], 2, 1, &[(&[1, 3, -2], 97), (&[1, 3, -1], 12), (&[1, 2, 0], 3), (&[0, 3, -1], 4), (&[0, 2, 0], 1)]),
+    ];
+    for (seed, loop_number, momentum, terms) in rows {
+        assert!(rt; gives(alloc, &basis, ask(seed, loop_number, momentum, &[]), &modulus, terms)?);
+    }
+    Ok(())
+}
