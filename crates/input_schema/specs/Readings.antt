@@ -1,5 +1,5 @@
 -- What a part of a file is read as: a value, or its first fault. The project's own.
-use Rattle.std.specs.Prelude.{◌≡◌, ℕ, List, [], ◌∷◌, ◌++◌, Result, Ok, Err}
+use Rattle.std.specs.Prelude.{◌≡◌, ℕ, List, [], ◌∷◌, ◌++◌, Option, Some, None, Result, Ok, Err}
 use denote.Ref.{Bor}
 use Rattle.input_schema.specs.declared.faults.File.{File}
 use Rattle.input_schema.specs.declared.faults.InputKind.{InputKind}
@@ -39,7 +39,12 @@ pub record Then {A B : Type 0} (first : Reading A) (next : A → Reading B) (r :
   pub is : first outcome
   pub after : After outcome next r
 
--- The nodes of a list in order, where the reading of each knows what was read before it.
+-- a part that may be missing, and then has this value
+abbrev pub IfGiven : {N A : Type 0} → Option N → A → (N → Reading A) → Reading A
+IfGiven None missing read = Is (Ok missing)
+IfGiven (Some node) missing read = read node
+
+-- The nodes of a list in order, where the reading of each knows what was found before it.
 abbrev pub Each : {N A : Type 0} → (List A → N → Reading A) → List A → List N → Reading (List A)
 Each read found [] r = r ≡ Ok found
 Each read found (node ∷ nodes) r = Then (read found node) (λ a. Each read (found ++ a ∷ []) nodes) r

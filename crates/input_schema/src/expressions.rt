@@ -1,6 +1,6 @@
 //! Scalars that write a momentum or a value over declared names.
 
-ghost use Rattle.std.specs.Prelude.{◌<◌, ◌^◌, length};
+ghost use Rattle.std.specs.Prelude.{◌≡◌, ◌<◌, ◌^◌, length, IfOk};
 ghost use Rattle.input_schema.specs.Texts.{MomentumText, ValueText, ReadsMomentum, ReadsValue};
 ghost use Rattle.input_schema.specs.Readings.{Answers};
 
@@ -20,7 +20,8 @@ fn momentum_text(
 ) -> Result<Momentum, SchemaError>
     requires size { length text.now < 2 ^ 32 }
     requires few { length names.now < 2 ^ 32 }
-    ensures { Answers (MomentumText file line names.now text.now) result }
+    ensures reading { Answers (MomentumText file line names.now text.now) result }
+    ensures counted { IfOk result (λ momentum. length momentum ≡ length names.now) }
 {
     match read_momentum(alloc, text, names) {
         Ok(momentum) => Ok(momentum),
@@ -61,7 +62,8 @@ pub fn momentum(
     names: &[Name],
 ) -> Result<Momentum, SchemaError>
     requires { length names.now < 2 ^ 32 }
-    ensures { Answers (ReadsMomentum file node.now names.now) result }
+    ensures reading { Answers (ReadsMomentum file node.now names.now) result }
+    ensures counted { IfOk result (λ momentum. length momentum ≡ length names.now) }
 {
     let text = scalar(file, node)?;
     momentum_text(alloc, file, node.line, names, text.as_str())

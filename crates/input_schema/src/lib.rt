@@ -18,6 +18,6 @@ pub use faults::{File, InputFault, InputKind, SchemaError, fault};
 pub use laws::readings_are_single;
 pub use maps::{Key, fields, needed, optional};
 pub use momenta::replaced;
-pub use names::{fresh, name, new_name, place_among, reference};
+pub use names::{fresh, joined, name, new_name, place_among, reference};
 pub use nodes::{flag, items, pair, scalar};
 pub use numbers::{number, wide_number, written_number};

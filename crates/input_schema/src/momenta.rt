@@ -63,6 +63,7 @@ fn plus_times(
     ensures sums { IfOk result (λ sums. spec.checked file line (spec.plus_times factor coefficients.now image.now) ≡ Ok sums.items) }
     ensures refused { IfErr result (Refuses (Is (spec.checked file line (spec.plus_times factor coefficients.now image.now)))) }
     ensures small { IfOk result (λ sums. All IsCoefficient sums.items) }
+    ensures counted { IfOk result (λ sums. length sums.items ≡ length coefficients.now) }
 {
     let mut sums = Vec::new(alloc);
     for i in 0..coefficients.len() {
@@ -90,7 +91,8 @@ pub fn replaced(
 ) -> Result<Momentum, SchemaError>
     requires place { place < length momentum.now }
     requires image { length image.now + 1 ≡ length momentum.now }
-    ensures { Gives (spec.replaced file line place image.now momentum.now) result }
+    ensures value { Gives (spec.replaced file line place image.now momentum.now) result }
+    ensures counted { IfOk result (λ momentum. length momentum ≡ length image.now) }
 {
     let coefficients = momentum.coefficients();
     let mut others = Vec::from_slice(alloc, coefficients)?;

@@ -1,9 +1,10 @@
 //! Names that are declared, and references to them.
 
-ghost use Rattle.std.specs.Prelude.{◌≡◌, ◌<◌, MatchOption, IfOk, IfSome, length, true, false};
+ghost use Rattle.std.specs.Prelude.{◌≡◌, ◌<◌, ◌++◌, MatchOption, IfOk, OnOk, IfErr, IfSome, length, true, false};
 ghost use Rattle.kinematics.specs.Names.{is_among};
 ghost use Rattle.kinematics.specs.Values.{place_of};
 ghost use Rattle.input_schema.specs.Names as spec;
+ghost use Rattle.input_schema.specs.declared.faults.SchemaError.TheVariants as schema_error;
 ghost use Rattle.input_schema.specs.Readings.{Gives};
 
 use crate::faults::{File, InputKind, SchemaError, fault};
@@ -107,4 +108,41 @@ pub fn reference(
         Some(place) => Ok(place),
         None => Err(fault(file, node.line, InputKind::UnknownName)),
     }
+}
+
+/// A copy of a name.
+fn copied(alloc: Global, name: &Name) -> Result<Name, SchemaError>
+    ensures copy { IfOk result (λ copy. copy ≡ name.now) }
+    ensures err { IfErr result (λ e. e ≡ schema_error.OutOfMemory) }
+{
+    match Name::new(alloc, name.as_str())? {
+        Some(copy) => Ok(copy),
+        None => unreachable!(),
+    }
+}
+
+/// Adds copies of names to a list.
+fn append(alloc: Global, names: &mut Vec<Name>, more: &[Name]) -> Result<(), SchemaError>
+    ensures names { OnOk result (names.new.items ≡ names.old.items ++ more.now) }
+    ensures err { IfErr result (λ e. e ≡ schema_error.OutOfMemory) }
+{
+    for name in more {
+        names.push(copied(alloc, name)?)?;
+    }
+    Ok(())
+}
+
+/// Copies of two lists of names, one behind the other.
+///
+/// # Errors
+///
+/// `OutOfMemory` where memory was refused, and no other.
+pub fn joined(alloc: Global, first: &[Name], second: &[Name]) -> Result<Vec<Name>, SchemaError>
+    ensures names { IfOk result (λ names. names.items ≡ first.now ++ second.now) }
+    ensures err { IfErr result (λ e. e ≡ schema_error.OutOfMemory) }
+{
+    let mut names = Vec::new(alloc);
+    append(alloc, &mut names, first)?;
+    append(alloc, &mut names, second)?;
+    Ok(names)
 }

@@ -1,5 +1,6 @@
 use Rattle.std.proofs.Common.{◌≡◌, ◌<◌, ◌++◌, ◌+ℤ◌, ◌*ℤ◌, pos, true, false, refl, get_or, drop, length, arith, ap, sym, ◌∙◌, subst, Ok, if◌then◌else◌}
 use Rattle.std.specs.List.{list_all}
+use Rattle.std.proofs.lemmas.Grind.{common_steps}
 use Rattle.input_schema.specs.Momenta.{plus_times, is_small}
 use Rattle.input_schema.specs.Momenta as spec
 use Rattle.input_schema.proofs.SmallProducts.{kept}
@@ -33,6 +34,7 @@ loop-i-preserved c =
       rest = rw (factor, pushed) (one_more_sum c.args.factor c.in-Some.sum c.args.coefficients.now c.args.image.now c.loop-i.sums.items _ c.loop-i.i at in_image sum rest);
       small = rw pushed (one_more_small c.loop-i.sums.items c.in-Some.sum c.loop-i.invariant.small c.in-Some.ensures.small);
       in_range = rw pushed (one_more_coefficient c.loop-i.sums.items c.in-Some.sum c.loop-i.invariant.in_range c.in-Some.ensures.coefficient);
+      counted = rw pushed (grind (arith, common_steps));
     }
 
 pub returns-clause-sums : goal.returns-clause-sums

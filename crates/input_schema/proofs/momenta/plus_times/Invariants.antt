@@ -1,4 +1,4 @@
-use Rattle.std.proofs.Common.{◌≡◌, ◌++◌, true, drop, All}
+use Rattle.std.proofs.Common.{◌≡◌, ◌++◌, true, drop, All, length}
 use Rattle.std.specs.List.{list_all}
 use Rattle.kinematics.specs.Momenta.{IsCoefficient}
 use Rattle.input_schema.specs.Momenta as spec
@@ -9,4 +9,5 @@ invariant-loop-i l = record {
   rest : spec.plus_times l.factor l.coefficients l.image ≡ l.sums.items ++ spec.plus_times l.factor (drop l.i l.coefficients) (drop l.i l.image);
   small : list_all spec.is_small l.sums.items ≡ true;
   in_range : All IsCoefficient l.sums.items;
+  counted : length l.sums.items ≡ l.i;
 }
