@@ -3,8 +3,8 @@
 ghost use Rattle.std.specs.Prelude.{◌≡◌, ◌<◌, length, remove, IfOk, IfErr};
 ghost use Rattle.input_schema.specs.declared.faults.SchemaError.TheVariants as schema_error;
 
-use kinematics::{Expression, Momentum, Name};
 use input_schema::{SchemaError, joined};
+use kinematics::{Expression, Momentum, Name};
 use sqlite_items::Items;
 use std::alloc::Global;
 
@@ -48,7 +48,11 @@ pub struct Kinematics {
 }
 
 /// Copies of these names without the one at this place, counted from 0.
-pub(crate) fn without_place(alloc: Global, place: usize, names: &[Name]) -> Result<Items<Name>, SchemaError>
+pub(crate) fn without_place(
+    alloc: Global,
+    place: usize,
+    names: &[Name],
+) -> Result<Items<Name>, SchemaError>
     requires { place < length names.now }
     ensures names { IfOk result (λ others. others ≡ remove names.now place) }
     ensures err { IfErr result (λ e. e ≡ schema_error.OutOfMemory) }

@@ -7,8 +7,8 @@ ghost use Rattle.kinematics_schema.specs.Independent.{HasCounts};
 ghost use Rattle.kinematics_schema.specs.KinematicsFile.{ReadsNames, ReadsConserved, ReadsExternals};
 
 use crate::content::{Conserved, without_place};
-use kinematics::Name;
 use input_schema::{File, SchemaError, items, momentum, new_name, optional, pair, reference};
+use kinematics::Name;
 use sqlite_items::Items;
 use std::alloc::Global;
 use yaml_text::{Pair, Tree};
@@ -35,7 +35,11 @@ fn read_names(alloc: Global, declared: Items<Name>, node: &Tree) -> Result<Items
 }
 
 /// The outgoing momenta, if there are any, behind the incoming ones.
-fn read_outgoing(alloc: Global, pairs: &[Pair], incoming: Items<Name>) -> Result<Items<Name>, SchemaError>
+fn read_outgoing(
+    alloc: Global,
+    pairs: &[Pair],
+    incoming: Items<Name>,
+) -> Result<Items<Name>, SchemaError>
     ensures reading { Answers (IfGiven (value_of pairs.now (codes "outgoing_momenta")) incoming (ReadsNames incoming)) result }
     ensures few { IfOk result (λ names. length names ≤ length incoming + 7) }
 {
@@ -46,7 +50,11 @@ fn read_outgoing(alloc: Global, pairs: &[Pair], incoming: Items<Name>) -> Result
 }
 
 /// The conserved momentum, which is one of these, and its sum of the others.
-fn read_conserved(alloc: Global, externals: &[Name], node: &Tree) -> Result<Option<Conserved>, SchemaError>
+fn read_conserved(
+    alloc: Global,
+    externals: &[Name],
+    node: &Tree,
+) -> Result<Option<Conserved>, SchemaError>
     requires { length externals.now ≤ 14 }
     ensures reading { Answers (ReadsConserved externals.now node.now) result }
     ensures counts { IfOk result (λ conserved. HasCounts conserved (length externals.now)) }
@@ -59,7 +67,11 @@ fn read_conserved(alloc: Global, externals: &[Name], node: &Tree) -> Result<Opti
 }
 
 /// The conserved momentum, if the map names one.
-fn read_conservation(alloc: Global, pairs: &[Pair], externals: &[Name]) -> Result<Option<Conserved>, SchemaError>
+fn read_conservation(
+    alloc: Global,
+    pairs: &[Pair],
+    externals: &[Name],
+) -> Result<Option<Conserved>, SchemaError>
     requires { length externals.now ≤ 14 }
     ensures reading { Answers (IfGiven (value_of pairs.now (codes "momentum_conservation")) None (ReadsConserved externals.now)) result }
     ensures counts { IfOk result (λ conserved. HasCounts conserved (length externals.now)) }
@@ -71,7 +83,11 @@ fn read_conservation(alloc: Global, pairs: &[Pair], externals: &[Name]) -> Resul
 }
 
 /// All external momenta and the conserved one, where the incoming ones are the value of this node.
-pub fn read_externals(alloc: Global, pairs: &[Pair], incoming: &Tree) -> Result<Externals, SchemaError>
+pub fn read_externals(
+    alloc: Global,
+    pairs: &[Pair],
+    incoming: &Tree,
+) -> Result<Externals, SchemaError>
     ensures reading { Answers (ReadsExternals pairs.now incoming.now) result }
     ensures few { IfOk result (λ externals. length externals.names ≤ 14) }
     ensures counts { IfOk result (λ externals. HasCounts externals.conserved (length externals.names)) }

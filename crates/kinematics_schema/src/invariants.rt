@@ -6,14 +6,19 @@ ghost use Rattle.input_schema.specs.Maps.{value_of};
 ghost use Rattle.kinematics_schema.specs.KinematicsFile as spec;
 ghost use Rattle.kinematics_schema.specs.KinematicsFile.{ReadsInvariants, ReadsSymbol};
 
-use kinematics::Name;
 use input_schema::{File, SchemaError, fresh, items, name, number, optional, pair, reference};
+use kinematics::Name;
 use sqlite_items::Items;
 use std::alloc::Global;
 use yaml_text::{Pair, Tree};
 
 /// An invariant, which is none of the names that are declared, and a number that means nothing.
-fn read_invariant(alloc: Global, externals: &[Name], found: &[Name], node: &Tree) -> Result<Name, SchemaError>
+fn read_invariant(
+    alloc: Global,
+    externals: &[Name],
+    found: &[Name],
+    node: &Tree,
+) -> Result<Name, SchemaError>
     ensures { Gives (spec.invariant externals.now found.now node.now) result }
 {
     let (first, second) = pair(File::Kinematics, node)?;
@@ -39,7 +44,11 @@ fn read_list(alloc: Global, externals: &[Name], node: &Tree) -> Result<Items<Nam
 }
 
 /// The invariants, if the map names some.
-pub fn read_invariants(alloc: Global, pairs: &[Pair], externals: &[Name]) -> Result<Items<Name>, SchemaError>
+pub fn read_invariants(
+    alloc: Global,
+    pairs: &[Pair],
+    externals: &[Name],
+) -> Result<Items<Name>, SchemaError>
     ensures reading { Answers (IfGiven (value_of pairs.now (codes "kinematic_invariants")) [] (ReadsInvariants externals.now)) result }
     ensures few { IfOk result (λ invariants. length invariants ≤ 32) }
 {
@@ -58,7 +67,11 @@ fn read_place(alloc: Global, invariants: &[Name], node: &Tree) -> Result<Option<
 }
 
 /// The place of the invariant that is replaced by 1, if the map names one.
-pub fn read_symbol(alloc: Global, pairs: &[Pair], invariants: &[Name]) -> Result<Option<usize>, SchemaError>
+pub fn read_symbol(
+    alloc: Global,
+    pairs: &[Pair],
+    invariants: &[Name],
+) -> Result<Option<usize>, SchemaError>
     ensures { Answers (IfGiven (value_of pairs.now (codes "symbol_to_replace_by_one")) None (ReadsSymbol invariants.now)) result }
 {
     match optional(pairs, "symbol_to_replace_by_one") {

@@ -2,13 +2,15 @@
 //! of scalar products.
 #![tactic(auto)]
 
+mod content;
 mod externals;
 mod invariants;
-mod content;
 mod laws;
 mod momenta;
 mod reader;
 mod rules;
+#[cfg(test)]
+mod tests;
 
 pub use content::{Conserved, Kinematics, Rule};
 pub use laws::reading_is_single;

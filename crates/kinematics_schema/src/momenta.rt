@@ -6,8 +6,8 @@ ghost use Rattle.kinematics_schema.specs.Independent as spec;
 ghost use Rattle.kinematics_schema.specs.Independent.{HasCounts, ReadsIndependent};
 
 use crate::content::Conserved;
-use kinematics::{Momentum, Name};
 use input_schema::{File, SchemaError, momentum, replaced};
+use kinematics::{Momentum, Name};
 use std::alloc::Global;
 use yaml_text::Tree;
 
@@ -18,7 +18,13 @@ use yaml_text::Tree;
 /// # Errors
 ///
 /// OutOfRange at this line, where a coefficient is then below -1000 or above 1000.
-pub fn independent(alloc: Global, file: File, line: u32, conserved: &Option<Conserved>, momentum: Momentum) -> Result<Momentum, SchemaError>
+pub fn independent(
+    alloc: Global,
+    file: File,
+    line: u32,
+    conserved: &Option<Conserved>,
+    momentum: Momentum,
+) -> Result<Momentum, SchemaError>
     requires { HasCounts conserved.now (length momentum) }
     ensures { Gives (spec.independent file line conserved.now momentum) result }
 {
@@ -34,7 +40,13 @@ pub fn independent(alloc: Global, file: File, line: u32, conserved: &Option<Cons
 ///
 /// Those of `input_schema::momentum`, and then OutOfRange, where a coefficient is below -1000 or above
 /// 1000 once the conserved momentum is replaced.
-pub fn read_independent(alloc: Global, file: File, names: &[Name], conserved: &Option<Conserved>, node: &Tree) -> Result<Momentum, SchemaError>
+pub fn read_independent(
+    alloc: Global,
+    file: File,
+    names: &[Name],
+    conserved: &Option<Conserved>,
+    node: &Tree,
+) -> Result<Momentum, SchemaError>
     requires few { length names.now < 2 ^ 32 }
     requires counts { HasCounts conserved.now (length names.now) }
     ensures { Answers (ReadsIndependent file names.now conserved.now node.now) result }

@@ -5,16 +5,20 @@ ghost use Rattle.input_schema.specs.Readings.{Answers};
 ghost use Rattle.kinematics_schema.specs.Independent.{independents, HasCounts};
 ghost use Rattle.kinematics_schema.specs.KinematicsFile.{ReadsProducts, ReadsMap, ReadsKinematics};
 
+use crate::content::Kinematics;
 use crate::externals::{Externals, read_externals};
 use crate::invariants::{read_invariants, read_symbol};
-use crate::content::Kinematics;
 use crate::rules::read_rules;
 use input_schema::{File, InputKind, Key, SchemaError, fault, fields, needed};
 use std::alloc::Global;
 use yaml_text::{Pair, Tree};
 
 /// The invariants, the rules and the invariant that is replaced by 1, with the external momenta.
-fn read_products(alloc: Global, pairs: &[Pair], externals: Externals) -> Result<Kinematics, SchemaError>
+fn read_products(
+    alloc: Global,
+    pairs: &[Pair],
+    externals: Externals,
+) -> Result<Kinematics, SchemaError>
     requires few { length externals.names ≤ 14 }
     requires counts { HasCounts externals.conserved (length externals.names) }
     ensures reading { Answers (ReadsProducts pairs.now externals) result }
@@ -40,6 +44,7 @@ fn read_map(alloc: Global, node: &Tree) -> Result<Kinematics, SchemaError>
     ensures reading { Answers (ReadsMap node.now) result }
     ensures counts { IfOk result (λ kinematics. HasCounts kinematics.conserved (length kinematics.externals)) }
     ensures few { IfOk result (λ kinematics. length (independents kinematics.conserved kinematics.externals) ≤ 6) }
+    ensures few_externals { IfOk result (λ kinematics. length kinematics.externals ≤ 14) }
     ensures few_invariants { IfOk result (λ kinematics. length kinematics.invariants ≤ 32) }
 {
     let keys = [
@@ -71,6 +76,7 @@ pub fn read(alloc: Global, tree: &Tree) -> Result<Kinematics, SchemaError>
     ensures reading { Answers (ReadsKinematics tree.now) result }
     ensures counts { IfOk result (λ kinematics. HasCounts kinematics.conserved (length kinematics.externals)) }
     ensures few { IfOk result (λ kinematics. length (independents kinematics.conserved kinematics.externals) ≤ 6) }
+    ensures few_externals { IfOk result (λ kinematics. length kinematics.externals ≤ 14) }
     ensures few_invariants { IfOk result (λ kinematics. length kinematics.invariants ≤ 32) }
 {
     let keys = [Key::needed("kinematics")];

@@ -6,17 +6,22 @@ ghost use Rattle.input_schema.specs.Maps.{value_of};
 ghost use Rattle.kinematics_schema.specs.Independent.{HasCounts};
 ghost use Rattle.kinematics_schema.specs.KinematicsFile.{ReadsRule, ReadsRules};
 
-use crate::externals::Externals;
 use crate::content::Rule;
+use crate::externals::Externals;
 use crate::momenta::read_independent;
-use kinematics::Name;
 use input_schema::{File, SchemaError, items, optional, pair, value};
+use kinematics::Name;
 use sqlite_items::Items;
 use std::alloc::Global;
 use yaml_text::{Pair, Tree};
 
 /// A rule: two momenta, and the value of their product.
-fn read_rule(alloc: Global, externals: &Externals, invariants: &[Name], node: &Tree) -> Result<Rule, SchemaError>
+fn read_rule(
+    alloc: Global,
+    externals: &Externals,
+    invariants: &[Name],
+    node: &Tree,
+) -> Result<Rule, SchemaError>
     requires few { length externals.now.names ≤ 14 }
     requires few_invariants { length invariants.now ≤ 32 }
     requires counts { HasCounts externals.now.conserved (length externals.now.names) }
@@ -37,7 +42,12 @@ fn read_rule(alloc: Global, externals: &Externals, invariants: &[Name], node: &T
 }
 
 /// The rules of a list of 0 to 64 of them.
-fn read_list(alloc: Global, externals: &Externals, invariants: &[Name], node: &Tree) -> Result<Items<Rule>, SchemaError>
+fn read_list(
+    alloc: Global,
+    externals: &Externals,
+    invariants: &[Name],
+    node: &Tree,
+) -> Result<Items<Rule>, SchemaError>
     requires few { length externals.now.names ≤ 14 }
     requires few_invariants { length invariants.now ≤ 32 }
     requires counts { HasCounts externals.now.conserved (length externals.now.names) }
@@ -53,7 +63,12 @@ fn read_list(alloc: Global, externals: &Externals, invariants: &[Name], node: &T
 }
 
 /// The rules, if the map has some.
-pub fn read_rules(alloc: Global, pairs: &[Pair], externals: &Externals, invariants: &[Name]) -> Result<Items<Rule>, SchemaError>
+pub fn read_rules(
+    alloc: Global,
+    pairs: &[Pair],
+    externals: &Externals,
+    invariants: &[Name],
+) -> Result<Items<Rule>, SchemaError>
     requires few { length externals.now.names ≤ 14 }
     requires few_invariants { length invariants.now ≤ 32 }
     requires counts { HasCounts externals.now.conserved (length externals.now.names) }

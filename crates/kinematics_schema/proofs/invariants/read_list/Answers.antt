@@ -13,8 +13,8 @@ returns-in_err-invariant-clause-reading c =
 pub loop-item-preserved : goal.loop-item-preserved
 loop-item-preserved c = record {
   reading = rw c.in_ok-push.ensures.ok
-  (gone_on (λ found item. Is (invariant c.args.externals.now found item)) [] c.in_ok-nodes.nodes.now c.loop-item.invariants c.loop-item.item-index c.item-item.result c.in_ok-invariant.invariant
-  c.loop-item.invariant.reading (omega arith) c.item-item.is (rw c.as_slice.ensures at c.in_ok-invariant.ensures));
+      (gone_on (λ found item. Is (invariant c.args.externals.now found item)) [] c.in_ok-nodes.nodes.now c.loop-item.invariants c.loop-item.item-index c.item-item.result c.in_ok-invariant.invariant
+      c.loop-item.invariant.reading (omega arith) c.item-item.is (rw c.as_slice.ensures at c.in_ok-invariant.ensures));
   counted = rw c.in_ok-push.ensures.ok (grind (arith, common_steps));
 }
 
