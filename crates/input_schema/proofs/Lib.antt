@@ -1,0 +1,4 @@
+pub mod NumberSteps
+pub mod SmallProducts
+pub mod MomentumSteps
+pub mod Steps

@@ -1,0 +1,10 @@
+pub mod Kinds
+pub mod Readings
+pub mod Nodes
+pub mod Maps
+pub mod KeptKeys
+pub mod Names
+pub mod Numbers
+pub mod Texts
+pub mod Momenta
+pub mod Laws

@@ -1,0 +1,12 @@
+//! Laws of the readings of scalars.
+
+ghost use Rattle.input_schema.specs.Laws.{MomentaAreSingle, ValuesAreSingle};
+
+/// A scalar has at most one momentum or fault over the same names, and at most one value or fault. It does
+/// nothing when it runs.
+pub fn readings_are_single()
+    ensures momenta { MomentaAreSingle }
+    ensures values { ValuesAreSingle }
+{
+    kinematics::readings_are_unique();
+}
