@@ -108,6 +108,7 @@ module _ (p : ℕ) (order : Order) (unit : Unit) (taken rows rest : List Row) (e
     where
       zero_times : (n : ℕ) → 0 * n ≡ 0
       zero_times n = omega arith
+
       not_apart : (x y : Integral) → compare order x y ≢ Greater → compare order y x ≢ Greater → compare order x y ≡ Equal
       not_apart x y up down =
           let turned = (compare-total order).antisymm x y in
@@ -141,6 +142,7 @@ module _ (p : ℕ) (order : Order) (unit : Unit) (taken rows rest : List Row) (e
     where
       zero_mod_times : (n : ℕ) → 0 * n % p ≡ 0
       zero_mod_times n = ap (λ u. u % p) (let z : 0 * n ≡ 0 = omega arith in z) ∙ zero-mod p
+
       drop_first : (a b : ℕ) → a % p ≡ 0 → (a + b) % p ≡ b % p
       drop_first a b z = sym (mod-add-mod a p b) ∙ ap (λ u. (u + b) % p) z ∙ ap (λ u. u % p) (zero-add b)
 

@@ -30,8 +30,7 @@ loop-row-preserved-in-Continue-1 c =
     let turn = YieldsList-turn road c.loop-row.yielded c.loop-row.row-iterator c.loop-row.yielded_by c.next.result c.next.new.self row c.in-Some.is c.next.ensures.steps in
     let pivot = subst (HasPivot c.args.order) (sym turn.1) (c.requires.pivots (length c.loop-row.yielded) row turn.0) in
     let of_unit = (c.is_of_unit.ensures pivot.0 pivot.1).0 (search rules) in
-    let above = ascend_so_far c.args.order rows c.loop-row.yielded row turn.0 turn.1 c.requires.ascend c.loop-row.invariant.3 in
-    (
+    let above = ascend_so_far c.args.order rows c.loop-row.yielded row turn.0 turn.1 c.requires.ascend c.loop-row.invariant.3 in (
       tt,
       tt,
       rw c.in_ok-push.ensures.items (IsParted-own c.args.order c.args.unit c.loop-row.yielded c.loop-row.parted.own.items c.loop-row.parted.rest.items row c.loop-row.invariant.2 (pivot.0, pivot.1, of_unit) above),
@@ -45,8 +44,7 @@ loop-row-preserved c =
     let road = YieldsList-from_vec {s = c.into_iter-row-iterator.result} rows (search rules) (search rules) in
     let turn = YieldsList-turn road c.loop-row.yielded c.loop-row.row-iterator c.loop-row.yielded_by c.next.result c.next.new.self row c.in-Some.is c.next.ensures.steps in
     let pivot = subst (HasPivot c.args.order) (sym turn.1) (c.requires.pivots (length c.loop-row.yielded) row turn.0) in
-    let elsewhere = not_true c.is_of_unit.result (c.is_of_unit.ensures pivot.0 pivot.1).1 (search rules) in
-    (
+    let elsewhere = not_true c.is_of_unit.result (c.is_of_unit.ensures pivot.0 pivot.1).1 (search rules) in (
       tt,
       tt,
       rw c.in_ok-push-2.ensures.items (IsParted-rest c.args.order c.args.unit c.loop-row.yielded c.loop-row.parted.own.items c.loop-row.parted.rest.items row c.loop-row.invariant.2 (pivot.0, pivot.1, elsewhere)),

@@ -12,4 +12,3 @@ pub returns-clause-reduced : goal.returns-clause-reduced
 returns-clause-reduced c =
     IsReduced-from_passes c.args.modulus.now c.args.order c.args.rows.items c.sort_unstable_by.new.self.items c.in_ok-stairs.stairs.items c.in_ok-back.field-0.items
     (SameSpan-permutation c.args.modulus.now c.args.order c.args.rows.items c.sort_unstable_by.new.self.items c.requires c.sort_unstable_by.ensures.permutation) c.in_ok-stairs.ensures.forward c.in_ok-back.ensures
-
