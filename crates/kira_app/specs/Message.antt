@@ -3,8 +3,8 @@ use Rattle.std.specs.Prelude.{◌≡◌, ◌⊎◌, ℕ, List, [], ◌++◌, cod
 use Rattle.kira_outside.specs.Faults.{Rose}
 use Rattle.kira_outside.specs.Stream.{Stream, appended}
 use Rattle.table_text.specs.Sending.{IsPrefixSent}
-use Rattle.reduction_core.specs.declared.plain.ForwardFault.{ForwardFault}
-use Rattle.reduction_core.specs.declared.plain.ForwardFault.TheVariants as fault
+use Rattle.sector_forward.specs.declared.fault.ForwardFault.{ForwardFault}
+use Rattle.sector_forward.specs.declared.fault.ForwardFault.TheVariants as fault
 use Rattle.kira_app.specs.declared.status.Status.{Status}
 use Rattle.kira_app.specs.declared.status.Status.TheVariants.{Ok, NotYet, Composite, ReadFault, WriteFault, OutOfMemory}
 

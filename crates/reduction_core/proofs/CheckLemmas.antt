@@ -22,13 +22,13 @@ use Rattle.sparse_row.proofs.Spans.{combination-push}
 use Rattle.sparse_row.proofs.RowSpans.{no_row}
 use Rattle.reduction_core.specs.Checks.{IsSum, AreSums, IsShownReduced, StandsBelow, StandsAt}
 use Rattle.reduction_core.specs.NormalForm.{is_pivot, rule_for, normal_form, solved, unit_row}
-use Rattle.reduction_core.specs.Steps.{HasPivot}
+use Rattle.sector_forward.specs.Steps.{HasPivot}
 use Rattle.sparse_row.proofs.RowValues.{same_row}
 use Rattle.reduction_core.proofs.Pivots.{IsPivot-from_test, test-from_IsPivot}
 use Rattle.sparse_row.proofs.RowValues.{greatest_same}
-use Rattle.reduction_core.proofs.StepLemmas.{same_at}
-use Rattle.reduction_core.proofs.Law.{decided}
-use Rattle.reduction_core.proofs.Clearing.{none_above}
+use Rattle.sector_forward.proofs.StepLemmas.{same_at}
+use Rattle.sector_forward.proofs.Keys.{decided}
+use Rattle.sector_forward.proofs.Clearing.{none_above}
 
 -- ---- pivots
 

@@ -17,12 +17,14 @@ use Rattle.sparse_row.specs.ReducedList.{IsEchelon}
 use Rattle.sparse_row.proofs.Spans.{at, IsSpanned-at, combination-nothing}
 use Rattle.sparse_row.proofs.RowSpans.{functions, no_row, at-functions}
 use Rattle.reduction_core.specs.NormalForm.{empty_row, unit_row, solved, by_rule, rule_for, normal_form}
-use Rattle.reduction_core.specs.Laws.{ShowsNoPivot, DifferBySpan}
+use Rattle.reduction_core.specs.Laws.{ShowsNoPivot}
+use Rattle.sector_forward.specs.Differences.{DifferBySpan}
 use Rattle.reduction_core.proofs.Law.{IsTop, known_by_pivots}
 use Rattle.sparse_row.proofs.RowValues.{same_row}
 use Rattle.reduction_core.proofs.OneTable.{IsStair-from_echelon, pivot_from_top}
 use Rattle.reduction_core.proofs.Pivots.{rule_is_pivot}
-use Rattle.reduction_core.proofs.NormalForms.{same_key, key_cases, coefficient-empty_row, coefficient-unit_row, coefficient-solved, get-unit_row, get-solved, no_pivot_shown}
+use Rattle.sector_forward.proofs.Keys.{same_key, key_cases}
+use Rattle.reduction_core.proofs.NormalForms.{coefficient-empty_row, coefficient-unit_row, coefficient-solved, get-unit_row, get-solved, no_pivot_shown}
 
 -- ---- a row of residues
 

@@ -11,12 +11,8 @@ use Rattle.std.specs.Ordering.{ordering_reverse}
 use Rattle.std.specs.declared.cmp.Ordering.{Ordering}
 use Rattle.std.specs.declared.cmp.Ordering.TheVariants.{Less, Equal, Greater}
 use Rattle.sparse_row.specs.Span.{combination}
+use Rattle.sector_forward.proofs.Keys.{decided}
 use Rattle.sparse_row.proofs.Spans.{at, IsSpanned, AllSpanned, combination-agree, combination-only, combination-some, IsSpanned-at}
-
--- a number is 0 or not
-pub decided : (n : ℕ) → (n ≡ 0) ⊎ (n ≢ 0)
-decided zero = inl refl
-decided (suc n) = inr (suc-ne-zero n)
 
 -- the key is the greatest at which the function isn't 0, and there it is 1
 pub record IsTop {K : Type 0} (R : K → K → Ordering) (f : K → ℕ) (x : K) : Type 0 where

@@ -1,14 +1,8 @@
 pub mod Law
-pub mod Members
 pub mod OneTable
 pub mod Pivots
 pub mod NormalForms
 pub mod Differences
 pub mod Masters
-pub mod StepLemmas
-pub mod Shown
-pub mod Clearing
-pub mod Taking
-pub mod Backing
 pub mod TableRows
 pub mod CheckLemmas

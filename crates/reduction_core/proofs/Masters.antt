@@ -17,7 +17,7 @@ use Rattle.integral_index.specs.Order.{compare}
 use Rattle.integral_index.proofs.Orders.{compare-total, compare-IsAntisymmetric}
 use Rattle.sparse_row.specs.Row.{Row, IsRow}
 use Rattle.reduction_core.specs.NormalForm.{normal_form, IsMaster, masters}
-use Rattle.reduction_core.proofs.Members.{Contains-cons_cases, Contains-here, Contains-there}
+use Rattle.sector_forward.proofs.Members.{Contains-cons_cases, Contains-here, Contains-there}
 use Rattle.reduction_core.proofs.Pivots.{key_of_shown, shown_of_key}
 use Rattle.reduction_core.proofs.Differences.{normal_form_is_row}
 

@@ -19,30 +19,10 @@ use Rattle.sparse_row.specs.Row.{Row, coefficient, Shows, IsPivot}
 use Rattle.sparse_row.specs.ReducedList.{IsEchelon}
 use Rattle.reduction_core.specs.NormalForm.{empty_row, unit_row, solved, by_rule, rule_for, normal_form}
 use Rattle.reduction_core.specs.Laws.{ShowsNoZero, ShowsNoPivot}
+use Rattle.sector_forward.proofs.Keys.{same_key, key_cases}
 use Rattle.reduction_core.proofs.Law.{IsTop-one}
 use Rattle.reduction_core.proofs.OneTable.{IsTop-from_pivot}
 use Rattle.reduction_core.proofs.Pivots.{rule_is_pivot, no_rule_no_pivot}
-
--- whether two integrals are the same, as rows look them up
-abbrev pub same_key : Integral → Integral → Bool
-same_key = eq_by_cmp by_fields
-
-tied_false : (r : Ordering) → is_eq r ≡ false → r ≢ Equal
-tied_false Less h e = cc
-tied_false Equal h e = false≢true (sym h)
-tied_false Greater h e = cc
-
-tied_true : (r : Ordering) → is_eq r ≡ true → r ≡ Equal
-tied_true Less h = absurd (false≢true h)
-tied_true Equal h = refl
-tied_true Greater h = absurd (false≢true h)
-
-pub key_cases : (y x : Integral) → ((same_key y x ≡ true) × (y ≡ x)) ⊎ ((same_key y x ≡ false) × (y ≢ x))
-key_cases y x =
-    elim (same_key y x) as (λ b. same_key y x ≡ b → ((same_key y x ≡ true) × (y ≡ x)) ⊎ ((same_key y x ≡ false) × (y ≢ x))) [
-      | true ↦ λ e. inl (e, by_fields-IsAntisymmetric y x (tied_true (by_fields y x) e))
-      | false ↦ λ e. inr (e, λ s. tied_false (by_fields y x) e (ap (by_fields y) (sym s) ∙ tied_itself by_fields-total y))
-    ] refl
 
 -- ---- the rows of which normal forms are made
 

@@ -15,7 +15,7 @@ use Rattle.sparse_row.proofs.RowValues.{same_row}
 use Rattle.sparse_row.proofs.Spans.{at}
 use Rattle.sparse_row.proofs.RowSpans.{functions, no_row, at-functions, AllSpanned-from_rows, All_in_span-trans}
 use Rattle.reduction_core.proofs.Law.{IsTop, IsStair, matched}
-use Rattle.reduction_core.proofs.Members.{same_from_members}
+use Rattle.sector_forward.proofs.Members.{same_from_members}
 
 module _ (p : ℕ) (order : Order) where
   pub IsTop-from_pivot : (row : Row) (x : Integral) → IsPivot order row x → IsTop (compare order) (coefficient row) x

@@ -16,7 +16,7 @@ use Rattle.integral_index.specs.Order.{by_fields, compare}
 use Rattle.integral_index.proofs.Orders.{by_fields-total, by_fields-IsAntisymmetric}
 use Rattle.sparse_row.specs.Row.{Row, coefficient, Shows, IsRow, IsPivot}
 use Rattle.reduction_core.specs.NormalForm.{is_pivot, rule_for}
-use Rattle.reduction_core.proofs.Members.{Contains-cons_cases, Contains-here, Contains-there}
+use Rattle.sector_forward.proofs.Members.{Contains-cons_cases, Contains-here, Contains-there}
 
 first_true : (a b : Bool) → (a && b) ≡ true → a ≡ true
 first_true true b h = refl

@@ -11,13 +11,14 @@ use Rattle.integral_index.proofs.Orders.{compare-total}
 use Rattle.sparse_row.specs.Row.{Row, coefficient, IsRow, IsEmpty, IsPivot}
 use Rattle.sparse_row.specs.ReducedList.{IsEchelon}
 use Rattle.reduction_core.specs.NormalForm.{empty_row, unit_row, solved, by_rule, rule_for, normal_form}
-use Rattle.reduction_core.specs.Steps.{IsStairs, IsPivotAt, IsPlaceFor}
+use Rattle.sector_forward.specs.Steps.{IsStairs, IsPivotAt, IsPlaceFor}
 use Rattle.sparse_row.proofs.RowValues.{same_row}
 use Rattle.reduction_core.proofs.Pivots.{rule_is_pivot, no_rule_no_pivot}
-use Rattle.reduction_core.proofs.NormalForms.{same_key, key_cases, coefficient-empty_row, coefficient-unit_row, coefficient-solved}
+use Rattle.sector_forward.proofs.Keys.{same_key, key_cases}
+use Rattle.reduction_core.proofs.NormalForms.{coefficient-empty_row, coefficient-unit_row, coefficient-solved}
 use Rattle.reduction_core.proofs.Differences.{IsRow-empty, IsRow-unit, IsRow-solved, cancel}
-use Rattle.reduction_core.proofs.StepLemmas.{IsPivotAt-from, stairs_less, same_at}
-use Rattle.reduction_core.proofs.Backing.{IsStairs-from_echelon}
+use Rattle.sector_forward.proofs.StepLemmas.{IsPivotAt-from, stairs_less, same_at}
+use Rattle.sector_forward.proofs.Backing.{IsStairs-from_echelon}
 
 -- ---- the rows that are made
 

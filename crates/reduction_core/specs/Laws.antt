@@ -1,13 +1,14 @@
 -- Laws on reduced lists and normal forms, each the contract of a function of `laws`.
-use Rattle.std.specs.Prelude.{◌≡◌, ◌↔◌, ℕ, ◌+◌, ◌%◌, ◌<◌, false, List, map, All, AllPairs, Contains}
+use Rattle.std.specs.Prelude.{◌≡◌, ◌↔◌, ℕ, ◌<◌, false, List, All, AllPairs, Contains}
 use Rattle.std.specs.declared.cmp.Ordering.TheVariants.{Less}
 use Rattle.integral_index.specs.declared.Order.{Order}
 use Rattle.integral_index.specs.Integral.{Integral, sector_of}
 use Rattle.integral_index.specs.Order.{compare}
 use Rattle.integral_index.specs.ZeroSectors.{is_zero_sector}
-use Rattle.sparse_row.specs.Row.{Row, coefficient, Shows, IsRow, IsPivot}
-use Rattle.sparse_row.specs.Span.{combination, SameSpan}
+use Rattle.sparse_row.specs.Row.{Row, Shows, IsRow, IsPivot}
+use Rattle.sparse_row.specs.Span.{SameSpan}
 use Rattle.sparse_row.specs.ReducedList.{IsEchelon, IsReduced}
+use Rattle.sector_forward.specs.Differences.{DifferBySpan}
 use Rattle.reduction_core.specs.NormalForm.{unit_row, normal_form, IsMaster, masters}
 
 -- there is only one reduced list of given equations
@@ -29,11 +30,6 @@ ShowsNoZero zeros row = (y : Integral) → Shows row y → is_zero_sector (zeros
 -- no pivot of the table is shown
 abbrev pub ShowsNoPivot : Order → List Row → Row → Type 0
 ShowsNoPivot order table row = (rule : Row) (y : Integral) → Contains table rule → IsPivot order rule y → ¬ (Shows row y)
-
--- the two rows differ by a sum of multiples of the table's rows, modulo p: where each of those is 0, the two are equal
-pub record DifferBySpan (p : ℕ) (table : List Row) (row other : Row) : Type 0 where
-  pub multiplier : ℕ → ℕ
-  pub is : (y : Integral) → coefficient row y % p ≡ (coefficient other y + combination multiplier (map coefficient table) y) % p
 
 -- a normal form is a row of residues
 abbrev pub NormalFormIsRow : Type 0

@@ -1,7 +1,5 @@
 pub mod Checks
-pub mod Fault
 pub mod KeptTable
 pub mod Laws
 pub mod NormalForm
-pub mod Steps
 pub mod Table

@@ -4,10 +4,10 @@
 pub mod checks;
 pub mod laws;
 mod plain;
-mod steps;
 mod table;
 
-pub use plain::{ForwardFault, reduce_plain};
+pub use plain::reduce_plain;
+pub use sector_forward::ForwardFault;
 pub use table::Table;
 
 #[cfg(test)]

@@ -4,10 +4,10 @@ ghost use Rattle.std.specs.Prelude.{◌≡◌, ◌<◌, IfOk};
 ghost use Rattle.sparse_row.specs.Row.{IsRow, IsPivot};
 ghost use Rattle.reduction_core.specs.NormalForm.{unit_row, solved};
 
-use crate::steps::place_of_pivot;
 use field_word::Modulus;
 use integral_index::{Integral, Order, ZeroSectors};
 use out_of_memory::OutOfMemory;
+use sector_forward::place_of_pivot;
 use sparse_row::Row;
 use std::alloc::Global;
 use std::marker::Model;

@@ -1,6 +1,6 @@
 -- The first row with no pivot settles the answer.
 use Rattle.std.proofs.Common.{All}
-use Rattle.reduction_core.specs.Steps.{HasPivot}
+use Rattle.sector_forward.specs.Steps.{HasPivot}
 use Rattle.reduction_core.proofs.CheckLemmas.{untrue, never, always, not_all, all_of_front, all_of_front_more}
 use Rattle.reduction_core.proofs.checks.have_pivots.Goals as goal
 

@@ -3,7 +3,7 @@ use Rattle.sparse_row.specs.ReducedList.{IsEchelon}
 use Rattle.reduction_core.specs.Checks.{StandsAt}
 use Rattle.reduction_core.proofs.CheckLemmas.{untrue, never, always, echelon_from_pairs, pairs_from_echelon, pairs_more, pairs_all, stands_from_pairs}
 use Rattle.std.proofs.Common.{All}
-use Rattle.reduction_core.specs.Steps.{HasPivot}
+use Rattle.sector_forward.specs.Steps.{HasPivot}
 use Rattle.reduction_core.proofs.checks.is_echelon.Goals as goal
 
 pub returns-then-not-have_pivots : goal.returns-then-not-have_pivots

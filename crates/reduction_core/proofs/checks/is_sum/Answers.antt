@@ -1,6 +1,6 @@
 -- One more multiple is added.
 use Rattle.std.proofs.Common.{refl}
-use Rattle.reduction_core.proofs.StepLemmas.{IsRow-in}
+use Rattle.sector_forward.proofs.StepLemmas.{IsRow-in}
 use Rattle.reduction_core.proofs.CheckLemmas.{IsSumSoFar-start, IsSumSoFar-more, sum_tested, positive_modulus}
 use Rattle.reduction_core.proofs.checks.is_sum.Goals as goal
 

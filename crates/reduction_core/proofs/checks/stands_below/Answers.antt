@@ -1,7 +1,7 @@
 -- The greatest integrals of both rows are their pivots.
 use Rattle.std.proofs.Common.{sym, ◌∙◌}
 use Rattle.reduction_core.specs.Checks.{StandsBelow}
-use Rattle.reduction_core.proofs.StepLemmas.{less_of_index}
+use Rattle.sector_forward.proofs.StepLemmas.{less_of_index}
 use Rattle.reduction_core.proofs.CheckLemmas.{stands_tested, stands_not, never, not_less_of_index}
 use Rattle.reduction_core.proofs.checks.stands_below.Goals as goal
 

@@ -1,7 +1,7 @@
 -- The first row that isn't above settles the answer.
 use Rattle.std.proofs.Common.{sym, subst, arith}
 use Rattle.reduction_core.specs.Checks.{StandsBelow, StandsAt}
-use Rattle.reduction_core.specs.Steps.{HasPivot}
+use Rattle.sector_forward.specs.Steps.{HasPivot}
 use Rattle.reduction_core.proofs.CheckLemmas.{untrue, never, always, stands_more, stands_fail}
 use Rattle.reduction_core.proofs.checks.stands_below_rest.Goals as goal
 

@@ -1,6 +1,6 @@
 -- The sum with the multiple by p - 1 has the opposites of the rule's coefficients.
 use Rattle.std.proofs.Common.{◌-◌, ◌<◌, ap, arith}
-use Rattle.reduction_core.proofs.StepLemmas.{IsRow-in}
+use Rattle.sector_forward.proofs.StepLemmas.{IsRow-in}
 use Rattle.reduction_core.proofs.TableRows.{solved_made}
 use Rattle.reduction_core.proofs.table.solved.Goals as goal
 

@@ -1,6 +1,6 @@
 -- The row has the coefficient 1 at the integral, and 0 elsewhere.
 use Rattle.std.proofs.Common.{sym, arith}
-use Rattle.reduction_core.proofs.StepLemmas.{IsRow-in}
+use Rattle.sector_forward.proofs.StepLemmas.{IsRow-in}
 use Rattle.reduction_core.proofs.TableRows.{unit_made}
 use Rattle.reduction_core.proofs.table.unit_row.Goals as goal
 

@@ -4,8 +4,8 @@ use Rattle.std.proofs.lemmas.Result.{IfOk-weaker}
 use Rattle.integral_index.specs.Integral.{sector_of}
 use Rattle.integral_index.specs.ZeroSectors.{is_zero_sector}
 use Rattle.reduction_core.specs.NormalForm.{normal_form, solved, unit_row}
-use Rattle.reduction_core.specs.Steps.{IsPivotAt, IsPlaceFor}
-use Rattle.reduction_core.proofs.Backing.{IsStairs-from_echelon}
+use Rattle.sector_forward.specs.Steps.{IsPivotAt, IsPlaceFor}
+use Rattle.sector_forward.proofs.Backing.{IsStairs-from_echelon}
 use Rattle.reduction_core.proofs.TableRows.{empty_made, form_of_zero, form_of_pivot, form_of_other}
 use Rattle.reduction_core.proofs.table.Table.normal_form.Goals as goal
 

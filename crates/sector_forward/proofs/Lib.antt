@@ -1,0 +1,11 @@
+pub mod Keys
+pub mod Members
+pub mod StepLemmas
+pub mod Shown
+pub mod Clearing
+pub mod Taking
+pub mod Backing
+pub mod Parted
+pub mod Eliminations
+pub mod Units
+pub mod Fronts
