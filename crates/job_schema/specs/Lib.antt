@@ -1,0 +1,4 @@
+pub mod Readings
+pub mod Ratios
+pub mod Specs
+pub mod Jobs
