@@ -1,9 +1,15 @@
 -- Parts in order: what a call answers, from what the calls for its parts answer.
-use Rattle.std.proofs.Common.{◌≡◌, ℕ, ◌+◌, ◌<◌, ◌≤◌, List, [], ◌∷◌, ◌++◌, drop, length, get_or, Result, Ok, Err, refl, sym, ap, ◌∙◌, subst, arith}
+use Rattle.std.proofs.Common.{◌≡◌, ℕ, ◌+◌, ◌<◌, ◌≤◌, List, [], ◌∷◌, ◌++◌, drop, length, get_or, Option, Some, None, Result, Ok, Err, refl, sym, ap, ◌∙◌, subst, arith}
+use Rattle.std.specs.Result.{IsErrAnd}
 use Rattle.std.proofs.lemmas.List.{at_drop_more, at_drop_all}
 use Rattle.input_schema.specs.declared.faults.SchemaError.{SchemaError}
 use Rattle.input_schema.specs.declared.faults.SchemaError.TheVariants.{Fault, OutOfMemory}
-use Rattle.input_schema.specs.Readings.{Outcome, Reading, Is, After, Then, Each, Refuses, Answers, IsSingle}
+use Rattle.input_schema.specs.Readings.{Outcome, Reading, Is, After, Then, IfGiven, Each, Refuses, Answers, IsSingle}
+
+-- what `?` answers for an error of a part
+pub refused : {A : Type 0} (reading : Reading A) (r : Result A SchemaError) (e : SchemaError) → IsErrAnd r (λ x. x ≡ e) → Refuses reading e → Answers reading r
+refused reading (Ok a) e h k = absurd h
+refused reading (Err x) e h k = subst (λ (y : SchemaError). Refuses reading y) (sym h) k
 
 -- ---- one part and what follows it
 
@@ -21,6 +27,14 @@ then_refuses_later first next a OutOfMemory h k = tt
 pub then_answers : {A B : Type 0} (first : Reading A) (next : A → Reading B) (a : A) (r : Result B SchemaError) → first (Ok a) → Answers (next a) r → Answers (Then first next) r
 then_answers first next a (Ok b) h k = then_is first next a (Ok b) h k
 then_answers first next a (Err e) h k = then_refuses_later first next a e h k
+
+-- ---- a part that may be missing
+
+pub given : {N A : Type 0} (part : Option N) (missing : A) (read : N → Reading A) (node : N) (r : Result A SchemaError) → Some node ≡ part → Answers (read node) r → Answers (IfGiven part missing read) r
+given {N} {A} part missing read node r e k = subst (λ (p : Option N). Answers (IfGiven p missing read) r) e k
+
+pub not_given : {N A : Type 0} (part : Option N) (missing : A) (read : N → Reading A) → None ≡ part → IfGiven part missing read (Ok missing)
+not_given {N} {A} part missing read e = subst (λ (p : Option N). IfGiven p missing read (Ok missing)) e refl
 
 -- ---- the nodes of a list in a loop
 
@@ -64,6 +78,10 @@ pub then_single : {A B : Type 0} (first : Reading A) (next : A → Reading B) �
 then_single {A} {B} first next one same r q h k =
     let e = one h.outcome k.outcome h.is k.is in
     single_after next same k.outcome r q (subst (λ (o : Outcome A). After o next r) e h.after) k.after
+
+pub given_single : {N A : Type 0} (part : Option N) (missing : A) (read : N → Reading A) → ((node : N) → IsSingle (read node)) → IsSingle (IfGiven part missing read)
+given_single None missing read same r q h k = sym h ∙ k
+given_single (Some node) missing read same r q h k = same node r q h k
 
 pub each_single : {N A : Type 0} (read : List A → N → Reading A) → ((found : List A) (node : N) → IsSingle (read found node)) → (found : List A) (nodes : List N) → IsSingle (Each read found nodes)
 each_single read same found [] r q h k = h ∙ sym k

@@ -19,5 +19,5 @@ pub use laws::readings_are_single;
 pub use maps::{Key, fields, needed, optional};
 pub use momenta::replaced;
 pub use names::{fresh, joined, name, new_name, place_among, reference};
-pub use nodes::{flag, items, pair, scalar};
+pub use nodes::{flag, items, list, pair, scalar};
 pub use numbers::{number, wide_number, written_number};

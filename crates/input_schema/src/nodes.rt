@@ -26,7 +26,11 @@ pub fn scalar(file: File, node: &Tree) -> Result<&Text, SchemaError>
 }
 
 /// The items of a list of any length.
-fn list(file: File, node: &Tree) -> Result<&[Tree], SchemaError>
+///
+/// # Errors
+///
+/// Shape, where the node is no list.
+pub fn list(file: File, node: &Tree) -> Result<&[Tree], SchemaError>
     ensures { Gives (spec.list file node.now) (lent result) }
 {
     match &node.value {

@@ -4,6 +4,7 @@
 mod frames;
 mod groups;
 mod jobs;
+mod overrides;
 mod points;
 mod ratios;
 mod selections;
@@ -11,6 +12,7 @@ mod selections;
 pub use frames::Frame;
 pub use groups::Group;
 pub use jobs::{Job, read_jobs};
-pub use points::{PointInput, Setting};
+pub use overrides::{Override, override_point, read_override};
+pub use points::{NumericPoint, PointInput, Setting};
 pub use ratios::{Divisor, Ratio};
 pub use selections::{ListFile, Selection};

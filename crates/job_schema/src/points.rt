@@ -6,6 +6,7 @@ ghost use Rattle.input_schema.specs.Readings.{Gives};
 ghost use Rattle.job_schema.specs.Jobs as spec;
 
 use crate::ratios::{Ratio, read_prime, read_ratio};
+use field_word::Modulus;
 use input_schema::{File, Key, SchemaError, fields, optional, scalar};
 use kinematics::Name;
 use out_of_memory::OutOfMemory;
@@ -30,12 +31,21 @@ pub struct PointInput {
     /// The line on which the point begins in the file of jobs.
     pub line: u32,
     /// The modulus, where it is given.
-    pub prime: Option<u64>,
+    pub prime: Option<Modulus>,
     /// The value of each parameter that has one, in the order of the parameters.
     pub settings: Items<Option<Setting>>,
 }
 
-fn prime_in(node: Option<&Tree>) -> Result<Option<u64>, SchemaError>
+/// The numeric point: the modulus, and the value of each parameter in the order of the parameters.
+#[derive(Debug, Drop)]
+pub struct NumericPoint {
+    /// The modulus.
+    pub prime: Modulus,
+    /// The values.
+    pub settings: Items<Setting>,
+}
+
+fn prime_in(node: Option<&Tree>) -> Result<Option<Modulus>, SchemaError>
     ensures { Gives (spec.prime_in (option_copied node.entry)) result }
 {
     match node {

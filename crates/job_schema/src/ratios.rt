@@ -1,13 +1,13 @@
 //! The numbers of a numeric point: the prime, and ratios of whole numbers.
 
-ghost use Rattle.std.specs.Prelude.{◌≡◌, ◌<◌, ◌≤◌, ◌+◌, ◌^◌, length, IfOk};
+ghost use Rattle.std.specs.Prelude.{◌≡◌, ◌<◌, ◌≤◌, ◌+◌, ◌^◌, length};
 ghost use Rattle.std.specs.List.{list_all};
-ghost use Rattle.field_word.specs.Residues.{IsModulus};
 ghost use Rattle.kinematics.specs.Tokens.{is_digit};
 ghost use Rattle.input_schema.specs.Readings.{Gives};
 ghost use Rattle.input_schema.specs.Numbers.{is_number};
 ghost use Rattle.job_schema.specs.Ratios as spec;
 
+use field_word::Modulus;
 use input_schema::{File, InputKind, SchemaError, fault, written_number};
 
 /// A divisor, and the offset of its slash in the text.
@@ -150,14 +150,22 @@ pub fn read_ratio(file: File, line: u32, text: &[u8]) -> Result<Ratio, SchemaErr
 ///
 /// BadNumber, where the text isn't digits alone; then NumberTooWide, where the number is above
 /// 2^128 - 1; then BadModulus, where it isn't such a number.
-pub fn read_prime(file: File, line: u32, text: &[u8]) -> Result<u64, SchemaError>
-    ensures value { Gives (spec.prime file line text.now) result }
-    ensures modulus { IfOk result IsModulus }
+pub fn read_prime(file: File, line: u32, text: &[u8]) -> Result<Modulus, SchemaError>
+    ensures { Gives (spec.prime file line text.now) result }
 {
     let number = written_number(file, line, text)?;
-    if number % 2 == 1 && 3 <= number && number < 1 << 63 {
-        Ok(number as u64)
-    } else {
-        Err(fault(file, line, InputKind::BadModulus))
+    modulus_of(file, line, number)
+}
+
+/// The modulus with this number, if there is one.
+fn modulus_of(file: File, line: u32, number: u128) -> Result<Modulus, SchemaError>
+    ensures { Gives (spec.modulus file line number) result }
+{
+    if number >= 1 << 63 {
+        return Err(fault(file, line, InputKind::BadModulus));
+    }
+    match Modulus::new(number as u64) {
+        Ok(modulus) => Ok(modulus),
+        Err(_) => Err(fault(file, line, InputKind::BadModulus)),
     }
 }

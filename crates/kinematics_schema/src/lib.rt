@@ -1,0 +1,18 @@
+//! Reads the file of kinematics: the external momenta, their conservation, the invariants and the rules
+//! of scalar products.
+#![tactic(auto)]
+
+mod content;
+mod externals;
+mod invariants;
+mod laws;
+mod momenta;
+mod reader;
+mod rules;
+#[cfg(test)]
+mod tests;
+
+pub use content::{Conserved, Kinematics, Rule};
+pub use laws::reading_is_single;
+pub use momenta::{independent, read_independent};
+pub use reader::read;
