@@ -1,5 +1,5 @@
 -- Laws of the readings of scalars. The project's own.
-use Rattle.std.specs.Prelude.{ℕ, List}
+use Rattle.std.specs.Prelude.{List}
 use Rattle.yaml_text.specs.declared.tree.Tree.{Tree}
 use Rattle.yaml_text.specs.Lines.{Bytes}
 use Rattle.input_schema.specs.declared.faults.File.{File}

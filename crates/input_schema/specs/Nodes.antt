@@ -1,9 +1,9 @@
 -- Scalars, lists, pairs and flags: the nodes of a tree that a schema asks for. The project's own.
-use Rattle.std.specs.Prelude.{ℕ, Bool, if◌then◌else◌, ◌&&◌, nat_le, List, [], ◌∷◌, length, Ok, codes}
+use Rattle.std.specs.Prelude.{ℕ, if◌then◌else◌, ◌&&◌, nat_le, List, [], ◌∷◌, length, Ok, codes}
 use Rattle.std.specs.Str.{bytes_eq}
 use Rattle.yaml_text.specs.declared.tree.Tree.{Tree, out-Tree}
 use Rattle.yaml_text.specs.declared.tree.Value.{Value, out-Value}
-use Rattle.yaml_text.specs.declared.tree.Pair.{Pair, out-Pair}
+use Rattle.yaml_text.specs.declared.tree.Pair.{Pair}
 use Rattle.yaml_text.specs.declared.tree.Value.TheOpen.{Value-F}
 use Rattle.yaml_text.specs.Lines.{Bytes}
 use Rattle.input_schema.specs.declared.faults.File.{File}

@@ -156,7 +156,7 @@ pub fn fields<'a>(file: File, table: &[Key<'_>], node: &'a Tree) -> Result<&'a [
 ///
 /// # Errors
 ///
-/// MissingKey, where it isn't there; behind `fields` with a table that needs the key it always is.
+/// MissingKey, where it isn't there.
 pub fn needed<'a>(
     file: File,
     line: u32,

@@ -1,8 +1,5 @@
-use Rattle.std.proofs.Common.{◌≡◌, ◌<◌, ◌++◌, ◌+ℤ◌, ◌*ℤ◌, pos, true, false, refl, get_or, drop, length, arith, ap, sym, ◌∙◌, subst, Ok, if◌then◌else◌}
-use Rattle.std.specs.List.{list_all}
+use Rattle.std.proofs.Common.{◌<◌, pos, refl, get_or, length, arith}
 use Rattle.std.proofs.lemmas.Grind.{common_steps}
-use Rattle.input_schema.specs.Momenta.{plus_times, is_small}
-use Rattle.input_schema.specs.Momenta as spec
 use Rattle.input_schema.proofs.SmallProducts.{kept}
 use Rattle.input_schema.proofs.MomentumSteps.{one_more_sum, no_more_sums, large_sum, one_more_small, one_more_coefficient}
 use Rattle.input_schema.proofs.momenta.plus_times.Goals as goal

@@ -1,4 +1,4 @@
-use Rattle.std.proofs.Common.{arith, rules}
+use Rattle.std.proofs.Common.{arith}
 use Rattle.std.proofs.lemmas.Int.{ints, to_z-of_z}
 use Rattle.input_schema.proofs.SmallProducts.{product_small}
 use Rattle.input_schema.proofs.momenta.times.Goals as goal
