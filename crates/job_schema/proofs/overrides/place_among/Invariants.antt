@@ -1,0 +1,10 @@
+use Rattle.std.proofs.Common.{◌≡◌, ◌+◌, drop}
+use Rattle.kinematics.specs.Names.{is_among}
+use Rattle.kinematics.specs.Values.{place_of}
+use Rattle.job_schema.proofs.overrides.place_among.Given as goal
+
+abbrev pub invariant-loop-i : goal.invariant-loop-i
+invariant-loop-i l = record {
+  among : is_among l.names l.text ≡ is_among (drop l.i l.names) l.text;
+  place : place_of l.names l.text ≡ place_of (drop l.i l.names) l.text + l.i;
+}
