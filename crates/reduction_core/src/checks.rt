@@ -6,7 +6,7 @@ ghost use Rattle.sparse_row.specs.Row.{IsRow, IsPivot};
 ghost use Rattle.sparse_row.specs.ReducedList.{IsEchelon, IsReduced};
 ghost use Rattle.reduction_core.specs.Checks.{IsMultiplierList, IsSum, AreSums, IsShownReduced, StandsBelow, StandsAt};
 ghost use Rattle.reduction_core.specs.NormalForm.{normal_form};
-ghost use Rattle.reduction_core.specs.Steps.{HasPivot};
+ghost use Rattle.sector_forward.specs.Steps.{HasPivot};
 
 use crate::table::{solved, unit_row};
 use field_word::Modulus;

@@ -85,7 +85,8 @@ fn taken_rows(
 {
     let mut made = Vec::new(alloc);
     for terms in rows {
-        made.push(taken_row(alloc, terms, unit, modulus)?)?;
+        let row = taken_row(alloc, terms, unit, modulus)?;
+        made.push(row)?;
     }
     Ok(made)
 }
