@@ -19,9 +19,9 @@ clash_has_no_table p e rules multipliers residue clash t meets =
     let same : dot multipliers (map (product_over p e t) rules) % p ≡ dot multipliers (values_of rules) % p =
     ap (λ n. n % p) (dot-weigh multipliers (map (product_over p e t) rules))
     ∙ weigh-same p multipliers (λ j. get_or (map (product_over p e t) rules) j 0) (λ j. get_or (values_of rules) j 0) (λ j h.
-      let inside : j < length rules = omega (arith, clash.vector.size) in
-      ap (λ n. n % p) (get_or-map (product_over p e t) rules j no_rule 0 inside) ∙ sym (mod-mod _ p)
-      ∙ ap (λ n. n % p) (meets.each j no_rule inside ∙ sym (get_or-map (λ rule. rule.value) rules j no_rule 0 inside)))
+    let inside : j < length rules = omega (arith, clash.vector.size) in
+    ap (λ n. n % p) (get_or-map (product_over p e t) rules j no_rule 0 inside) ∙ sym (mod-mod _ p)
+    ∙ ap (λ n. n % p) (meets.each j no_rule inside ∙ sym (get_or-map (λ rule. rule.value) rules j no_rule 0 inside)))
     ∙ ap (λ n. n % p) (sym (dot-weigh multipliers (values_of rules))) in
     clash.differs (sym clash.sum ∙ sym same ∙ clash.cancels t)
 

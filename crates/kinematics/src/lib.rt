@@ -19,7 +19,8 @@ mod value_reader;
 pub use expressions::Expression;
 pub use faults::{TextError, TextFault, TextKind, ValueFault};
 pub use laws::{
-    printed_momentum_reads_back, readings_are_unique, refused_rules_have_no_point, values_are_unique,
+    printed_momentum_reads_back, readings_are_unique, refused_rules_have_no_point,
+    values_are_unique,
 };
 pub use momenta::Momentum;
 pub use momentum_reader::read_momentum;

@@ -188,11 +188,18 @@ fn tells_a_clash_before_an_open_product(rt: HostRuntime) -> Result<(), Fail> {
     let mut rules = Vec::new(rt.alloc());
     add(rt.alloc(), &mut rules, &[1, 0], &[1, 0], 1)?;
     add(rt.alloc(), &mut rules, &[1, 0], &[1, 0], 2)?;
-    let is_clash = match point_of(rt.alloc(), &rules, 2, 101)? {
-        Err(PointFault::RulesClash { multipliers, .. }) => multipliers.entries().len() == 2,
-        _ => false,
-    };
-    assert!(rt; is_clash);
+    match point_of(rt.alloc(), &rules, 2, 101)? {
+        Err(
+            PointFault::RulesClash {
+                multipliers,
+                residue,
+            },
+        ) => {
+            assert_eq!(rt; multipliers.entries(), [1, 100].as_slice());
+            assert_eq!(rt; residue, 100);
+        }
+        _ => return Err("no clash")?,
+    }
     Ok(())
 }
 
