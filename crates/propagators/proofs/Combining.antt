@@ -55,8 +55,8 @@ module _ (p : ℕ) (forms : List Form) (e : Eliminated) (is : IsInverted p forms
       below = All-cons p _ w (mod-lt _ (omega (arith, is.large))) vector.below;
     };
     products = λ x h. sym (
-      written p (length forms) (rows_of forms) e is.large size widths is.elimination is.none form.products w form_size vector.size weights x (omega arith)
-      ∙ mod-eq_of_lt (below x 0 h));
+        written p (length forms) (rows_of forms) e is.large size widths is.elimination is.none form.products w form_size vector.size weights x (omega arith)
+        ∙ mod-eq_of_lt (below x 0 h));
     constant = sym (restored p form.constant (dot w (constants_of forms)) constant);
   }
 
@@ -84,7 +84,7 @@ module _ (p : ℕ) (forms : List Form) (e : Eliminated) (is : IsInverted p forms
   only_one form (c_0 ∷ c) (o_0 ∷ other) form_size h g =
       let rest : other ≡ c = weights_same form c other c_0 o_0 form_size h g in
       let first : o_0 ≡ c_0 = cancelled p o_0 c_0 (dot c (constants_of forms)) (g.vector.below 0 0 (omega (arith, g.vector.size))) (h.vector.below 0 0 (omega (arith, h.vector.size)))
-        (sym (g.constant ∙ ap (λ z. (o_0 + dot z (constants_of forms)) % p) rest) ∙ h.constant) in
+      (sym (g.constant ∙ ap (λ z. (o_0 + dot z (constants_of forms)) % p) rest) ∙ h.constant) in
       ap (λ z. o_0 ∷ z) rest ∙ ap (λ n. n ∷ c) first
 
   pub independent : AreIndependent p forms
