@@ -1,7 +1,6 @@
 -- The combination of forms whose elimination leaves none over: that there is one, and no other.
-use Rattle.std.proofs.Common.{◌≡◌, ℕ, zero, suc, ◌+◌, ◌-◌, ◌*◌, ◌%◌, ◌<◌, ◌≤◌, List, [], ◌∷◌, length, map, drop, All, get_or, refl, sym, ap, ◌∙◌, subst, arith, add-zero}
+use Rattle.std.proofs.Common.{◌≡◌, ℕ, zero, suc, ◌+◌, ◌-◌, ◌*◌, ◌%◌, ◌<◌, List, [], ◌∷◌, length, All, get_or, sym, ap, ◌∙◌, arith, add-zero}
 use Rattle.std.proofs.Math.Nat.{mod-eq_of_lt, zero-mod, zero-mul, mod-add-mod, add-mod-mod, mod-lt, mod_self}
-use Rattle.std.proofs.Math.ListN.{get_or-map}
 use Rattle.std.proofs.lemmas.Grind.{same_number_lists, get_or_default_zero}
 use Rattle.std.proofs.lemmas.List.{length-map}
 use Rattle.field_word.specs.Residues.{difference_of}
@@ -10,7 +9,7 @@ use Rattle.matrix_elimination.specs.Vectors.{IsVector, dot, column}
 use Rattle.matrix_elimination.specs.Elimination.{multipliers_at}
 use Rattle.propagators.specs.Sums.{sum_to, entry}
 use Rattle.propagators.specs.Forms.{Form}
-use Rattle.propagators.specs.Combinations.{IsCombination, AreIndependent, SumToConstant, rows_of, constants_of}
+use Rattle.propagators.specs.Combinations.{IsCombination, AreIndependent, rows_of, constants_of}
 use Rattle.propagators.specs.Inverses.{IsInverted}
 use Rattle.propagators.proofs.SumLemmas.{sum_to-zero}
 use Rattle.propagators.proofs.Inversion.{written, determined}

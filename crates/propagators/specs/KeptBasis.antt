@@ -1,5 +1,5 @@
 -- How a basis is kept: its denominators with the elimination of their forms, and the derivatives.
-use Rattle.std.specs.Prelude.{◌≡◌, ℕ, suc, ◌+◌, ◌*◌, ◌/◌, ◌%◌, ◌<◌, ◌≤◌, List, [], length, All}
+use Rattle.std.specs.Prelude.{◌≡◌, ℕ, ◌+◌, ◌*◌, ◌/◌, ◌%◌, ◌<◌, ◌≤◌, List, [], length, All}
 use Rattle.std.specs.List.{slice_index_or}
 use Rattle.kinematics.specs.Points.{IsPoint}
 use Rattle.propagators.specs.declared.frames.Frame.TheInside.{Inside}

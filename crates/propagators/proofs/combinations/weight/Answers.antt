@@ -1,4 +1,4 @@
-use Rattle.std.proofs.Common.{◌≡◌, ◌+◌, ◌*◌, ◌%◌, ◌<◌, length, ap, sym, ◌∙◌, arith}
+use Rattle.std.proofs.Common.{◌≡◌, ◌*◌, ◌%◌, length, ap, sym, ◌∙◌, arith}
 use Rattle.matrix_elimination.specs.Elimination.{multipliers_at}
 use Rattle.propagators.specs.Sums.{sum_to, entry}
 use Rattle.propagators.proofs.SumLemmas.{more}

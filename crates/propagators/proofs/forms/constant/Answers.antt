@@ -1,4 +1,4 @@
-use Rattle.std.proofs.Common.{◌≡◌, ◌+◌, ◌*◌, ◌%◌, ◌∙◌, length, ap, sym}
+use Rattle.std.proofs.Common.{◌+◌, ◌*◌, ◌%◌, ◌∙◌, length, ap, sym}
 use Rattle.propagators.specs.Sums.{sum_to, entry}
 use Rattle.propagators.specs.Forms.{external_product}
 use Rattle.propagators.proofs.SumLemmas.{more, entry-next}

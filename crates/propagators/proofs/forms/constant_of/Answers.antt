@@ -1,4 +1,4 @@
-use Rattle.std.proofs.Common.{◌≡◌, ◌+◌, ◌*◌, ◌%◌, ◌∙◌}
+use Rattle.std.proofs.Common.{◌*◌, ◌∙◌}
 use Rattle.propagators.specs.Sums.{entry}
 use Rattle.propagators.specs.Forms.{external_product}
 use Rattle.propagators.proofs.SumLemmas.{more, term}

@@ -1,4 +1,4 @@
-use Rattle.std.proofs.Common.{◌≡◌, ◌<◌, ◌*◌, ◌%◌, ◌∙◌, arith}
+use Rattle.std.proofs.Common.{◌<◌, ◌*◌, ◌∙◌, arith}
 use Rattle.propagators.specs.Sums.{entry}
 use Rattle.propagators.specs.Momenta.{replacement}
 use Rattle.propagators.proofs.SumLemmas.{more}

@@ -1,4 +1,4 @@
-use Rattle.std.proofs.Common.{◌≡◌, ◌≤◌, ◌+◌, ◌*◌, ◌/◌, ◌%◌, ◌∷◌, [], length, get_or, ap, sym, ◌∙◌, arith, length-append}
+use Rattle.std.proofs.Common.{◌≡◌, ◌≤◌, ◌+◌, ◌/◌, ◌%◌, ◌∷◌, [], length, get_or, ap, ◌∙◌, arith, length-append}
 use Rattle.propagators.specs.Basis.{momenta_of}
 use Rattle.propagators.proofs.FrameLemmas.{place_back, one_more, last_made}
 use Rattle.propagators.proofs.frames.Frame.derivatives.Goals as goal

@@ -1,4 +1,4 @@
-use Rattle.std.proofs.Common.{◌≡◌, ◌-◌, List, length, [], ◌++◌, take, map, All, refl, ap, sym, subst, ◌∙◌, arith}
+use Rattle.std.proofs.Common.{◌≡◌, ◌-◌, length, [], ◌++◌, take, map, All, refl, ap, sym, subst, ◌∙◌}
 use Rattle.matrix_elimination.specs.Vectors.{IsVector}
 use Rattle.matrix_elimination.specs.Elimination.{IsCancelled, IsElimination}
 use Rattle.propagators.specs.Denominators.{form_of}
