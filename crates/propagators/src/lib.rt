@@ -17,3 +17,6 @@ pub use combinations::Combination;
 pub use denominators::{Denominator, form, image};
 pub use faults::BasisFault;
 pub use forms::{Form, product};
+
+#[cfg(test)]
+mod tests;
