@@ -1,7 +1,6 @@
 -- The combination of forms whose elimination leaves none over: that there is one, and no other.
-use Rattle.std.proofs.Common.{◌≡◌, ℕ, zero, suc, ◌+◌, ◌-◌, ◌*◌, ◌%◌, ◌<◌, ◌≤◌, List, [], ◌∷◌, length, map, drop, All, get_or, refl, sym, ap, ◌∙◌, subst, arith, add-zero}
+use Rattle.std.proofs.Common.{◌≡◌, ℕ, zero, suc, ◌+◌, ◌-◌, ◌*◌, ◌%◌, ◌<◌, List, [], ◌∷◌, length, All, get_or, sym, ap, ◌∙◌, arith, add-zero}
 use Rattle.std.proofs.Math.Nat.{mod-eq_of_lt, zero-mod, zero-mul, mod-add-mod, add-mod-mod, mod-lt, mod_self}
-use Rattle.std.proofs.Math.ListN.{get_or-map}
 use Rattle.std.proofs.lemmas.Grind.{same_number_lists, get_or_default_zero}
 use Rattle.std.proofs.lemmas.List.{length-map}
 use Rattle.field_word.specs.Residues.{difference_of}
@@ -10,7 +9,7 @@ use Rattle.matrix_elimination.specs.Vectors.{IsVector, dot, column}
 use Rattle.matrix_elimination.specs.Elimination.{multipliers_at}
 use Rattle.propagators.specs.Sums.{sum_to, entry}
 use Rattle.propagators.specs.Forms.{Form}
-use Rattle.propagators.specs.Combinations.{IsCombination, AreIndependent, SumToConstant, rows_of, constants_of}
+use Rattle.propagators.specs.Combinations.{IsCombination, AreIndependent, rows_of, constants_of}
 use Rattle.propagators.specs.Inverses.{IsInverted}
 use Rattle.propagators.proofs.SumLemmas.{sum_to-zero}
 use Rattle.propagators.proofs.Inversion.{written, determined}
@@ -55,8 +54,8 @@ module _ (p : ℕ) (forms : List Form) (e : Eliminated) (is : IsInverted p forms
       below = All-cons p _ w (mod-lt _ (omega (arith, is.large))) vector.below;
     };
     products = λ x h. sym (
-      written p (length forms) (rows_of forms) e is.large size widths is.elimination is.none form.products w form_size vector.size weights x (omega arith)
-      ∙ mod-eq_of_lt (below x 0 h));
+        written p (length forms) (rows_of forms) e is.large size widths is.elimination is.none form.products w form_size vector.size weights x (omega arith)
+        ∙ mod-eq_of_lt (below x 0 h));
     constant = sym (restored p form.constant (dot w (constants_of forms)) constant);
   }
 
@@ -84,7 +83,7 @@ module _ (p : ℕ) (forms : List Form) (e : Eliminated) (is : IsInverted p forms
   only_one form (c_0 ∷ c) (o_0 ∷ other) form_size h g =
       let rest : other ≡ c = weights_same form c other c_0 o_0 form_size h g in
       let first : o_0 ≡ c_0 = cancelled p o_0 c_0 (dot c (constants_of forms)) (g.vector.below 0 0 (omega (arith, g.vector.size))) (h.vector.below 0 0 (omega (arith, h.vector.size)))
-        (sym (g.constant ∙ ap (λ z. (o_0 + dot z (constants_of forms)) % p) rest) ∙ h.constant) in
+      (sym (g.constant ∙ ap (λ z. (o_0 + dot z (constants_of forms)) % p) rest) ∙ h.constant) in
       ap (λ z. o_0 ∷ z) rest ∙ ap (λ n. n ∷ c) first
 
   pub independent : AreIndependent p forms

@@ -1,11 +1,11 @@
 -- The coefficient of a scalar product in the expanded product of two momenta.
-use Rattle.std.proofs.Common.{◌≡◌, ◌≢◌, ℕ, zero, suc, ◌+◌, ◌-◌, ◌*◌, ◌%◌, ◌<◌, ◌≤◌, Bool, true, false, cond, nat_eq, List, [], ◌∷◌, length, get_or, refl, sym, ap, ◌∙◌, subst, arith}
+use Rattle.std.proofs.Common.{◌≡◌, ◌≢◌, ℕ, suc, ◌+◌, ◌-◌, ◌*◌, ◌%◌, ◌≤◌, Bool, true, false, cond, nat_eq, List, length, get_or, refl, sym, ap, ◌∙◌, arith}
 use Rattle.std.specs.Prelude.{◌&&◌, ◌||◌}
 use Rattle.std.proofs.Math.Nat.{add-mod}
-use borrow.Author.Tests.{eqb-true, eqb-false}
+use borrow.Author.Tests.{eqb-true}
 use Rattle.propagators.specs.Sums.{sum_to, entry}
 use Rattle.propagators.specs.Forms.{expanded, is_product}
-use Rattle.propagators.proofs.SumLemmas.{sum_to-same, sum_to-sum, sum_to-scaled, sum_to-delta, delta, entry-at}
+use Rattle.propagators.proofs.SumLemmas.{sum_to-same, sum_to-sum, sum_to-delta, delta, entry-at}
 
 -- the double sum that two deltas pick from
 picked : (n m i q : ℕ) (l r : ℕ → ℕ) → 1 ≤ i → i ≤ n → 1 ≤ q → q ≤ m → sum_to n (λ x. sum_to m (λ y. l x * r y * (delta x i * delta y q))) ≡ l i * r q

@@ -2,7 +2,6 @@
 use Rattle.std.proofs.Common.{◌≡◌, ℕ, zero, suc, ◌+◌, ◌-◌, ◌*◌, ◌/◌, ◌%◌, ◌<◌, ◌≤◌, List, [], ◌∷◌, ◌++◌, length, map, All, get_or, inl, inr, Option, Some, None, Result, Ok, Err, IfOk, refl, sym, ap, ◌∙◌, subst, arith, length-append}
 use Rattle.std.specs.Option.{is_some}
 use Rattle.std.specs.List.{count_by, AllByRecursion, slice_get}
-use Rattle.std.proofs.Math.ListN.{get_or-map}
 use Rattle.std.proofs.lemmas.List.{length-map, get_or_read, get_or_append_left}
 use Rattle.std.proofs.lemmas.Bool.{cases_eq}
 use Rattle.std.proofs.Math.Nat.{mod-lt}
@@ -16,7 +15,7 @@ use Rattle.matrix_elimination.specs.Elimination.{multiplier_at, multipliers_at, 
 use Rattle.kinematics.specs.Points.{Point, IsPoint}
 use Rattle.propagators.specs.declared.denominators.Denominator.{Denominator}
 use Rattle.propagators.specs.declared.frames.Frame.TheInside.{Inside}
-use Rattle.propagators.specs.Sums.{sum_to, entry}
+use Rattle.propagators.specs.Sums.{entry}
 use Rattle.propagators.specs.Forms.{Form, IsForm, product_total}
 use Rattle.propagators.specs.Denominators.{form_of, IsDenominator}
 use Rattle.propagators.specs.Combinations.{IsCombination, rows_of, constants_of}
@@ -25,7 +24,7 @@ use Rattle.propagators.specs.Faults.{IsDependence}
 use Rattle.propagators.specs.Basis.{Basis, IsBasis, IsDerivative, derivative_form, momenta_of, forms_of}
 use Rattle.propagators.specs.KeptBasis.{shown, IsKept, AreDerivatives}
 use Rattle.propagators.proofs.SumLemmas.{entry-next}
-use Rattle.propagators.proofs.FormLemmas.{IsForm-form_of, IsForm-derivative}
+use Rattle.propagators.proofs.FormLemmas.{IsForm-derivative}
 use Rattle.propagators.proofs.Inversion.{multipliers-entry}
 use Rattle.field_word.specs.Residues.{difference_of}
 use Rattle.propagators.proofs.Combining.{only_one, independent, combined}

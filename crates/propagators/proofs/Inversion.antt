@@ -1,6 +1,6 @@
 -- What an elimination of independent rows gives: the multipliers of its columns are the inverse of the
 -- matrix from both sides.
-use Rattle.std.proofs.Common.{◌≡◌, ◌≢◌, ℕ, zero, suc, ◌+◌, ◌-◌, ◌*◌, ◌%◌, ◌<◌, ◌≤◌, Bool, true, false, cond, nat_eq, List, [], ◌∷◌, length, map, get_or, Option, None, Some, refl, sym, ap, ◌∙◌, subst, arith, inl, inr}
+use Rattle.std.proofs.Common.{◌≡◌, ◌≢◌, ℕ, zero, suc, ◌+◌, ◌*◌, ◌%◌, ◌<◌, ◌≤◌, Bool, true, false, cond, nat_eq, List, [], ◌∷◌, length, get_or, Option, None, Some, refl, sym, ap, ◌∙◌, arith, inl, inr}
 use Rattle.std.specs.Option.{is_some}
 use Rattle.std.specs.List.{count_by}
 use Rattle.std.proofs.Common.{◌⊎◌, add-zero}
@@ -11,7 +11,7 @@ use Rattle.std.proofs.lemmas.Nat.{mul-mod_first, mul-mod_second}
 use Rattle.std.proofs.lemmas.Bool.{cases_eq}
 use Rattle.matrix_elimination.specs.declared.elimination.Solved.{Solved}
 use Rattle.matrix_elimination.specs.declared.elimination.Eliminated.{Eliminated}
-use Rattle.matrix_elimination.specs.Vectors.{dot, column, unit_at}
+use Rattle.matrix_elimination.specs.Vectors.{dot, column}
 use Rattle.matrix_elimination.specs.Elimination.{multiplier_at, multipliers_at, HasSum, IsSolved, IsBacked, IsElimination}
 use Rattle.propagators.specs.Sums.{sum_to, entry}
 use Rattle.propagators.proofs.SumLemmas.{sum_to-same, sum_to-mod, sum_to-scaled, sum_to-zero, sum_to-swap, sum_to-first, sum_to-delta, delta, delta-same, delta-other}

@@ -1,8 +1,6 @@
 -- How many scalar products there are.
-use Rattle.std.proofs.Common.{◌≡◌, ℕ, zero, suc, ◌+◌, ◌-◌, ◌*◌, ◌/◌, ◌%◌, ◌<◌, ◌≤◌, List, [], ◌∷◌, ◌++◌, map, length, All, get_or, refl, sym, ap, ◌∙◌, subst, arith, length-append}
-use Rattle.std.proofs.lemmas.List.{length-map}
-use Rattle.std.proofs.Math.Nat.{mod-lt}
-use Rattle.propagators.specs.Forms.{Form, IsForm, pairs_with, scalar_products, product_total, sum_of_lists}
+use Rattle.std.proofs.Common.{◌≡◌, ℕ, zero, suc, ◌+◌, ◌-◌, ◌*◌, ◌≤◌, [], ◌∷◌, length, refl, ap, ◌∙◌, arith, length-append}
+use Rattle.propagators.specs.Forms.{pairs_with, scalar_products, product_total}
 
 length-pairs_with : (i n : ℕ) → length (pairs_with i n) ≡ n
 length-pairs_with i zero = refl

@@ -1,6 +1,6 @@
 -- Families of denominators in which every scalar product with a loop momentum can be written, and the
 -- derivatives of their denominators. Source: Kira, arXiv:1705.05610.
-use Rattle.std.specs.Prelude.{◌≡◌, ℕ, ◌+◌, ◌-◌, ◌*◌, ◌/◌, ◌%◌, ◌<◌, ◌≤◌, ℤ, List, length, map, Some, All, slice_get}
+use Rattle.std.specs.Prelude.{◌≡◌, ℕ, ◌+◌, ◌-◌, ◌*◌, ◌≤◌, ℤ, List, length, map, Some, All, slice_get}
 use Rattle.propagators.specs.declared.denominators.Denominator.{Denominator}
 use Rattle.propagators.specs.declared.denominators.Denominator.TheVariants.{Square, Bilinear}
 use Rattle.kinematics.specs.Points.{Point, IsPoint}

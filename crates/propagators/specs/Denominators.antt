@@ -1,5 +1,5 @@
 -- The forms of denominators. Source: Kira, arXiv:1705.05610; the bilinear denominators are those of its input.
-use Rattle.std.specs.Prelude.{◌≡◌, ℕ, ◌+◌, ◌<◌, ℤ, List, map, length}
+use Rattle.std.specs.Prelude.{◌≡◌, ℕ, ◌<◌, ℤ, List, map, length}
 use Rattle.field_word.specs.Residues.{difference_of}
 use Rattle.propagators.specs.declared.denominators.Denominator.{Denominator}
 use Rattle.propagators.specs.declared.denominators.Denominator.TheVariants.{Square, Bilinear}

@@ -1,5 +1,5 @@
 -- How a basis is kept: its denominators with the elimination of their forms, and the derivatives.
-use Rattle.std.specs.Prelude.{◌≡◌, ℕ, suc, ◌+◌, ◌*◌, ◌/◌, ◌%◌, ◌<◌, ◌≤◌, List, [], length, All}
+use Rattle.std.specs.Prelude.{◌≡◌, ℕ, ◌+◌, ◌*◌, ◌/◌, ◌%◌, ◌<◌, ◌≤◌, List, [], length, All}
 use Rattle.std.specs.List.{slice_index_or}
 use Rattle.kinematics.specs.Points.{IsPoint}
 use Rattle.propagators.specs.declared.frames.Frame.TheInside.{Inside}
@@ -27,4 +27,4 @@ pub record IsKept (a : Inside) : Type 0 where
 pub record AreDerivatives (basis : Basis) (derivatives : List (List ℕ)) : Type 0 where
   pub count : length derivatives ≡ basis.loops * momenta_of basis * length basis.denominators
   pub each : (k : ℕ) → k < length derivatives →
-    IsDerivative basis (k / length basis.denominators / momenta_of basis + 1) (k / length basis.denominators % momenta_of basis + 1) (k % length basis.denominators + 1) (slice_index_or derivatives k [])
+      IsDerivative basis (k / length basis.denominators / momenta_of basis + 1) (k / length basis.denominators % momenta_of basis + 1) (k % length basis.denominators + 1) (slice_index_or derivatives k [])

@@ -1,5 +1,5 @@
 -- Momenta as residues: one for each loop momentum, then one for each independent external momentum.
-use Rattle.std.specs.Prelude.{ℕ, zero, suc, ◌+◌, ◌*◌, ◌%◌, nat_le, ◌==◌, if◌then◌else◌, ℤ, List, [], ◌∷◌, ◌++◌, map, length}
+use Rattle.std.specs.Prelude.{ℕ, zero, suc, ◌*◌, ◌%◌, nat_le, ◌==◌, if◌then◌else◌, ℤ, List, [], ◌∷◌, ◌++◌, map, length}
 use Rattle.kinematics.specs.Rules.{residue_of}
 use Rattle.propagators.specs.Sums.{sum_to, entry}
 

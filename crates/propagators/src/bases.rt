@@ -75,12 +75,7 @@ impl Basis {
     /// The residues `c_0 .. c_N` with which `c_0 + c_1 D_1 + .. + c_N D_N` is the derivative of a
     /// denominator by a loop momentum, times a momentum. All are numbered from 1, the momenta with the
     /// loop momenta first. Source: Kira, arXiv:1705.05610.
-    pub fn derivative(
-        &self,
-        loop_number: u32,
-        momentum_number: u32,
-        denominator: u32,
-    ) -> &[u64]
+    pub fn derivative(&self, loop_number: u32, momentum_number: u32, denominator: u32) -> &[u64]
         requires loop_from_1 { 1 ≤ loop_number }
         requires loop_within { loop_number ≤ self.now.loops }
         requires momentum_from_1 { 1 ≤ momentum_number }

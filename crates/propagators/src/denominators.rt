@@ -6,7 +6,6 @@ ghost use Rattle.propagators.specs.Forms.{IsForm};
 
 use crate::forms::{Form, product, product_of};
 use crate::images::{image_residues, replaced};
-
 use field_word::Modulus;
 use kinematics::{Momentum, Point};
 use out_of_memory::OutOfMemory;
@@ -36,7 +35,7 @@ pub enum Denominator {
 
 impl Denominator {
     /// The same denominator.
-    pub fn copy(&self, alloc: Global) -> Result<Denominator, OutOfMemory>
+    pub(crate) fn copy(&self, alloc: Global) -> Result<Denominator, OutOfMemory>
         ensures { IfOk result (λ denominator. denominator ≡ self.now) }
     {
         Ok(match self {

@@ -10,7 +10,6 @@ ghost use Rattle.propagators.specs.Denominators.{less_mass};
 
 use crate::momenta::residues;
 use crate::residue_lists::{add, scale};
-
 use field_word::Modulus;
 use kinematics::{Momentum, Point};
 use out_of_memory::OutOfMemory;
@@ -144,7 +143,10 @@ fn constant(left: &[u64], right: &[u64], loops: u32, point: &Point, modulus: &Mo
     prove!(p > 0);
     let mut sum = 0;
     for x in 0..left.len() {
-        sum = modulus.add(sum, constant_of(left[x], right, x + 1, loops, point, modulus));
+        sum = modulus.add(
+            sum,
+            constant_of(left[x], right, x + 1, loops, point, modulus),
+        );
     }
     sum
 }

@@ -157,7 +157,11 @@ impl Frame {
                 let twice = self.modulus.add(alpha, alpha);
                 self.multiple(alloc, twice, &momentum, momentum_number)
             }
-            Denominator::Bilinear { left, right, mass: _ } => {
+            Denominator::Bilinear {
+                left,
+                right,
+                mass: _,
+            } => {
                 let left = residues(alloc, left, &self.modulus)?;
                 let right = residues(alloc, right, &self.modulus)?;
                 let left_alpha = coefficient(&left, loop_number);
@@ -185,7 +189,14 @@ impl Frame {
         ensures form { IfOk result (λ form. IsForm self.now.point.modulus self.now.loops self.now.point.externals form) }
     {
         let other = unit(alloc, momentum.len(), number)?;
-        let mut form = product_of(alloc, momentum, &other, self.loops, &self.point, &self.modulus)?;
+        let mut form = product_of(
+            alloc,
+            momentum,
+            &other,
+            self.loops,
+            &self.point,
+            &self.modulus,
+        )?;
         form.scale(factor, &self.modulus);
         Ok(form)
     }

@@ -4,7 +4,6 @@ ghost use Rattle.std.specs.Prelude.{◌≡◌, ◌+◌, ◌<◌, ◌≤◌, ℕ,
 ghost use Rattle.propagators.specs.Sums.{entry};
 ghost use Rattle.propagators.specs.Momenta.{residues_of, unit};
 
-
 use field_word::Modulus;
 use kinematics::{Momentum, residue};
 use out_of_memory::OutOfMemory;

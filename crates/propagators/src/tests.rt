@@ -11,12 +11,18 @@ use out_of_memory::OutOfMemory;
 use std::alloc::Global;
 use std::test::Fail;
 
-// Whether a momentum may have these coefficients.
+// Whether a momentum may have this coefficient.
+fn is_small(coefficient: &i16) -> bool
+    ensures { OnTrue result (IsCoefficient coefficient.now) }
+{
+    *coefficient >= -1000 && *coefficient <= 1000
+}
+
 fn are_small(coefficients: &[i16]) -> bool
     ensures { OnTrue result (All IsCoefficient coefficients.now) }
 {
     for coefficient in coefficients {
-        if *coefficient < -1000 || *coefficient > 1000 {
+        if !is_small(coefficient) {
             return false;
         }
     }

@@ -1,4 +1,4 @@
-use Rattle.std.proofs.Common.{◌≡◌, ◌+◌, ◌*◌, ◌%◌, ◌<◌, length, ap, sym, subst, ◌∙◌, arith}
+use Rattle.std.proofs.Common.{◌≡◌, ◌*◌, ◌%◌, ◌<◌, length, ap, sym, subst, ◌∙◌, arith}
 use Rattle.std.proofs.lemmas.List.{length-map}
 use Rattle.propagators.specs.Sums.{sum_to, entry}
 use Rattle.propagators.specs.Combinations.{constants_of}
@@ -16,7 +16,7 @@ mul-requires-clause-right c =
 pub loop-place-preserved : goal.loop-place-preserved
 loop-place-preserved c = record {
   value = c.add-sum.ensures.value ∙ more c.args.modulus.now c.loop-place.place c.loop-place.sum c.mul.result (λ k. entry c.args.weights.now k * entry (constants_of c.args.forms.now) k) c.loop-place.invariant.value
-  (constant_term c.args.modulus.now c.loop-place.place c.constant-constant.result c.mul.result c.args.weights.now c.args.forms.now c.index-forms-place.result c.loop-place-test.true c.index-forms-place.is c.constant-constant.ensures c.mul.ensures.value);
+      (constant_term c.args.modulus.now c.loop-place.place c.constant-constant.result c.mul.result c.args.weights.now c.args.forms.now c.index-forms-place.result c.loop-place-test.true c.index-forms-place.is c.constant-constant.ensures c.mul.ensures.value);
   below = c.add-sum.ensures.below;
 }
 

@@ -1,4 +1,4 @@
-use Rattle.std.proofs.Common.{◌≡◌, ◌+◌, ◌*◌, ◌%◌, ◌<◌, length, ap, sym, ◌∙◌, arith}
+use Rattle.std.proofs.Common.{◌≡◌, ◌*◌, ◌%◌, length, ap, sym, ◌∙◌, arith}
 use Rattle.matrix_elimination.specs.Elimination.{multipliers_at}
 use Rattle.propagators.specs.Sums.{sum_to, entry}
 use Rattle.propagators.proofs.SumLemmas.{more}
@@ -9,7 +9,7 @@ use Rattle.propagators.proofs.combinations.weight.Goals as goal
 pub loop-x-preserved : goal.loop-x-preserved
 loop-x-preserved c = record {
   value = c.add-weight.ensures.value ∙ more c.args.modulus.now c.loop-x.x c.loop-x.weight c.mul.result (λ x. entry c.args.form.now x * entry (multipliers_at c.args.place c.args.solved.now) x) c.loop-x.invariant.value
-  (weight_term c.args.modulus.now c.loop-x.x c.args.place c.multiplier-multiplier.result c.mul.result c.args.form.now c.args.solved.now c.index-solved-x.result (omega arith) c.index-solved-x.is c.multiplier-multiplier.ensures c.mul.ensures.value);
+      (weight_term c.args.modulus.now c.loop-x.x c.args.place c.multiplier-multiplier.result c.mul.result c.args.form.now c.args.solved.now c.index-solved-x.result (omega arith) c.index-solved-x.is c.multiplier-multiplier.ensures c.mul.ensures.value);
   below = c.add-weight.ensures.below;
 }
 

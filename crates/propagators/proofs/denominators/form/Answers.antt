@@ -1,4 +1,4 @@
-use Rattle.std.proofs.Common.{◌≡◌, ap, sym, ◌∙◌}
+use Rattle.std.proofs.Common.{ap, sym, ◌∙◌}
 use Rattle.propagators.specs.Denominators.{form_of, less_mass}
 use Rattle.propagators.proofs.FormLemmas.{form_of-square, form_of-bilinear}
 use Rattle.propagators.proofs.denominators.form.Goals as goal

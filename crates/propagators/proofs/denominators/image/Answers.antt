@@ -1,4 +1,4 @@
-use Rattle.std.proofs.Common.{◌≡◌, ap, sym, ◌∙◌}
+use Rattle.std.proofs.Common.{ap, sym, ◌∙◌}
 use Rattle.propagators.specs.Forms.{product_form}
 use Rattle.propagators.specs.Momenta.{residues_of, replaced}
 use Rattle.propagators.specs.Denominators.{less_mass, image_of}

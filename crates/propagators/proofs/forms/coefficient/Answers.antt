@@ -1,6 +1,4 @@
-use Rattle.std.proofs.Common.{◌≡◌, ◌+◌, ◌-◌, ◌*◌, ◌%◌, ◌≤◌, ℕ, length, get_or, sym, ap, ◌∙◌, subst, arith}
-use Rattle.std.proofs.Math.Nat.{add-mod}
-use Rattle.propagators.specs.Forms.{expanded, is_product}
+use Rattle.std.proofs.Common.{arith}
 use Rattle.propagators.proofs.Expansion.{square_at, pair_at}
 use Rattle.propagators.proofs.forms.coefficient.Goals as goal
 

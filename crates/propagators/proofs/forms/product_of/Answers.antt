@@ -1,4 +1,4 @@
-use Rattle.std.proofs.Common.{◌≡◌, ◌<◌, refl, sym, subst, arith, rules}
+use Rattle.std.proofs.Common.{◌<◌, refl, sym, subst, arith, rules}
 use Rattle.std.proofs.lemmas.Grind.{common_steps}
 use Rattle.propagators.specs.Forms.{IsForm}
 use Rattle.propagators.proofs.FormLemmas.{IsForm-product}

@@ -1,4 +1,4 @@
-use Rattle.std.proofs.Common.{◌≡◌, ◌%◌, ◌+◌, map, length}
+use Rattle.std.proofs.Common.{◌≡◌, ◌%◌, ◌+◌, map}
 use Rattle.propagators.specs.Forms.{expanded, is_product, scalar_products}
 use Rattle.propagators.proofs.forms.product_of.Given as goal
 

@@ -1,4 +1,4 @@
-use Rattle.std.proofs.Common.{◌≡◌, ◌<◌, ◌*◌, ◌%◌, ◌∙◌, arith}
+use Rattle.std.proofs.Common.{◌<◌, ◌*◌, ◌∙◌, arith}
 use Rattle.propagators.specs.Sums.{entry}
 use Rattle.propagators.specs.Momenta.{replacement}
 use Rattle.propagators.proofs.SumLemmas.{more}
@@ -14,6 +14,6 @@ prove-unreachable-requires-in-loop-place c =
 pub loop-place-preserved : goal.loop-place-preserved
 loop-place-preserved c = record {
   value = c.add-sum.ensures.value ∙ more c.args.modulus.now c.loop-place.place c.loop-place.sum c.mul.result (λ n. entry c.args.momentum.now n * replacement c.args.images.now n c.args.number) c.loop-place.invariant.value
-  (replaced_term c.args.modulus.now c.loop-place.place c.replacement-factor.result c.mul.result c.args.number c.args.momentum.now c.args.images.now c.replacement-factor.ensures.value c.mul.ensures.value);
+      (replaced_term c.args.modulus.now c.loop-place.place c.replacement-factor.result c.mul.result c.args.number c.args.momentum.now c.args.images.now c.replacement-factor.ensures.value c.mul.ensures.value);
   below = c.add-sum.ensures.below;
 }

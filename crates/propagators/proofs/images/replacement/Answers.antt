@@ -1,4 +1,4 @@
-use Rattle.std.proofs.Common.{◌≡◌, ap, ◌∙◌}
+use Rattle.std.proofs.Common.{ap, ◌∙◌}
 use Rattle.std.proofs.Common.{get_or, ◌-◌}
 use Rattle.propagators.proofs.ImageLemmas.{replacement-image}
 use Rattle.propagators.proofs.images.replacement.Goals as goal

@@ -1,4 +1,4 @@
-use Rattle.std.proofs.Common.{◌≡◌, sym, ◌∙◌}
+use Rattle.std.proofs.Common.{sym}
 use Rattle.propagators.proofs.SumLemmas.{entry-at}
 use Rattle.propagators.proofs.momenta.coefficient.Goals as goal
 

@@ -1,4 +1,4 @@
-use Rattle.std.proofs.Common.{◌≡◌, ◌<◌, ℕ, length, sym, ◌∙◌, arith}
+use Rattle.std.proofs.Common.{◌≡◌, length, sym, ◌∙◌, arith}
 use Rattle.std.proofs.lemmas.Grind.{same_number_lists}
 use Rattle.propagators.specs.Forms.{sum_of_lists}
 use Rattle.propagators.proofs.Lists.{length-sum_of_lists, get_or-sum_of_lists}

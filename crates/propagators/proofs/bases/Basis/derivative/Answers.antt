@@ -1,4 +1,4 @@
-use Rattle.std.proofs.Common.{subst, sym, arith}
+use Rattle.std.proofs.Common.{subst, sym}
 use Rattle.propagators.specs.Basis.{IsBasis}
 use Rattle.propagators.proofs.FrameLemmas.{index_within, derivative_at, derivative-unique}
 use Rattle.propagators.proofs.bases.Basis.derivative.Goals as goal

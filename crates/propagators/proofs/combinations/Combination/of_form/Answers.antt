@@ -1,7 +1,7 @@
-use Rattle.std.proofs.Common.{◌≡◌, ◌∷◌, ◌%◌, ap, sym, subst, ◌∙◌, arith}
+use Rattle.std.proofs.Common.{◌∷◌, ◌%◌, ap, ◌∙◌}
 use Rattle.field_word.specs.Residues.{difference_of}
 use Rattle.matrix_elimination.specs.Vectors.{dot}
-use Rattle.propagators.specs.Combinations.{IsCombination, constants_of}
+use Rattle.propagators.specs.Combinations.{constants_of}
 use Rattle.propagators.proofs.FrameLemmas.{sums_of, combined_by}
 use Rattle.propagators.proofs.combinations.Combination.of_form.Goals as goal
 

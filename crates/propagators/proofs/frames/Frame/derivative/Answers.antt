@@ -1,4 +1,4 @@
-use Rattle.std.proofs.Common.{◌≡◌, ◌<◌, ap, sym, subst, ◌∙◌, arith}
+use Rattle.std.proofs.Common.{ap, sym, subst, ◌∙◌, arith}
 use Rattle.propagators.specs.Sums.{entry}
 use Rattle.propagators.specs.Forms.{IsForm}
 use Rattle.propagators.proofs.FormLemmas.{derivative-square, derivative-bilinear, IsForm-derivative}

@@ -1,4 +1,4 @@
-use Rattle.std.proofs.Common.{◌≡◌, ◌+◌, ◌/◌, ◌%◌, ◌<◌, ℕ, List, [], length, get_or}
+use Rattle.std.proofs.Common.{◌≡◌, ◌+◌, ◌/◌, ◌%◌, ◌<◌, ℕ, [], length, get_or}
 use Rattle.propagators.specs.Basis.{IsDerivative, momenta_of}
 use Rattle.propagators.proofs.frames.Frame.derivatives.Given as goal
 

@@ -1,4 +1,4 @@
-use Rattle.std.proofs.Common.{◌≡◌, length, ap, sym, ◌∙◌}
+use Rattle.std.proofs.Common.{length, ap, sym, ◌∙◌}
 use Rattle.propagators.specs.Basis.{momenta_of}
 use Rattle.propagators.proofs.Lists.{length-listed}
 use Rattle.propagators.proofs.FormLemmas.{IsForm-multiple}

@@ -1,4 +1,4 @@
-use Rattle.std.proofs.Common.{◌≡◌, ◌-◌, List, length, [], ◌++◌, take, map, All, refl, ap, sym, subst, ◌∙◌, arith}
+use Rattle.std.proofs.Common.{◌≡◌, ◌-◌, length, [], ◌++◌, take, map, All, refl, ap, sym, subst, ◌∙◌}
 use Rattle.matrix_elimination.specs.Vectors.{IsVector}
 use Rattle.matrix_elimination.specs.Elimination.{IsCancelled, IsElimination}
 use Rattle.propagators.specs.Denominators.{form_of}
@@ -32,6 +32,6 @@ invariant_of-result c =
       forms = c.in_ok-forms.ensures.value;
       forms_each = c.in_ok-forms.ensures.forms;
       elimination = keep _ _ _ c.in_ok-elimination.elimination _ refl (none ∙ sym empty)
-        (subst (λ rows. IsElimination c.args.modulus.now (length c.args.denominators.now) rows c.in_ok-elimination.elimination) (c.deref-2.ensures.value ∙ c.in_ok-rows.ensures ∙ ap rows_of c.deref.ensures.value) c.in_ok-elimination.ensures.elimination);
+          (subst (λ rows. IsElimination c.args.modulus.now (length c.args.denominators.now) rows c.in_ok-elimination.elimination) (c.deref-2.ensures.value ∙ c.in_ok-rows.ensures ∙ ap rows_of c.deref.ensures.value) c.in_ok-elimination.ensures.elimination);
       none = none;
     }
