@@ -16,3 +16,6 @@ pub mod PrintedTokens
 pub mod PrintedMomenta
 pub mod OutcomeLemmas
 pub mod PlaceLemmas
+pub mod Expansion
+pub mod RuleSystems
+pub mod RefusedRules

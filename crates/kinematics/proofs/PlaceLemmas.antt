@@ -34,3 +34,14 @@ place_of-sum externals x y h g =
     ap (λ e. place_of e x (x + k)) (omega arith) ∙ ap (λ z. place_of externals x z) (omega arith) in
     let factor : x * (2 * externals + 1 - x) ≡ x * (x + 1 + 2 * d) = ap (λ a. x * a) (omega arith) in
     omega (arith, twice, same, factor)
+
+product_count-double : (e : ℕ) → 2 * product_count e ≡ e * (e + 1)
+product_count-double zero = omega (arith, zero-mul (0 + 1))
+product_count-double (suc e) =
+    let m = e + 1 in
+    let first : suc e * (suc e + 1) ≡ m * (m + 1) = ap (λ a. a * (a + 1)) (let s : suc e ≡ e + 1 = omega arith in s) in
+    let second : m * (m + 1) ≡ e * m + m + m = omega (arith, mul-add m m 1, mul-one m, add-mul e 1 m, one-mul m) in
+    omega (arith, product_count-double e, first, second)
+
+pub product_count-half : (e : ℕ) → e * (e + 1) / 2 ≡ product_count e
+product_count-half e = omega (arith, product_count-double e)

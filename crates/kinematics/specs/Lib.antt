@@ -15,3 +15,6 @@ pub mod Laws
 pub mod Printed
 pub mod Points
 pub mod KeptPoint
+pub mod Rules
+pub mod RuleRows
+pub mod RuleLaws

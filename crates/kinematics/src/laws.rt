@@ -1,6 +1,7 @@
-//! Laws of the readings of texts.
+//! Laws of the readings of texts, and of rules.
 
 ghost use Rattle.kinematics.specs.Printed.{PrintedReadsBack};
+ghost use Rattle.kinematics.specs.RuleLaws.{ClashHasNoTable, OpenHasNoPoint};
 ghost use Rattle.kinematics.specs.Laws.{ReadsAsOneValue, ReadsAsOneMomentum, HasOneValueFault, HasOneMomentumFault, ValueHasNoFault, MomentumHasNoFault, HasOneOutcome};
 
 /// A text has at most one reading as a value and at most one as a momentum, or at most one first fault,
@@ -24,4 +25,12 @@ pub fn printed_momentum_reads_back()
 /// runs.
 pub fn values_are_unique()
     ensures { HasOneOutcome }
+{}
+
+/// Where rules clash, no table meets them; where they leave a product open, no table is the only one
+/// that meets them. So for a prime modulus, and where memory is there, `point` answers each of its
+/// three answers exactly where it holds. It does nothing when it runs.
+pub fn refused_rules_have_no_point()
+    ensures clash { ClashHasNoTable }
+    ensures open { OpenHasNoPoint }
 {}

@@ -1,4 +1,4 @@
-//! Names, momenta and expressions of the input, and their values.
+//! Names, momenta and expressions of the input, their values, and the point of kinematic rules.
 #![tactic(auto)]
 
 mod evaluation;
@@ -11,17 +11,25 @@ mod names;
 mod numbers;
 mod points;
 mod product_places;
+mod rule_rows;
+mod rules;
 mod tokens;
 mod value_reader;
 
 pub use expressions::Expression;
 pub use faults::{TextError, TextFault, TextKind, ValueFault};
-pub use laws::{printed_momentum_reads_back, readings_are_unique, values_are_unique};
+pub use laws::{
+    printed_momentum_reads_back, readings_are_unique, refused_rules_have_no_point, values_are_unique,
+};
 pub use momenta::Momentum;
 pub use momentum_reader::read_momentum;
 pub use names::Name;
 pub use points::Point;
+pub use rule_rows::residue;
+pub use rules::{PointFault, Rule, point};
 pub use value_reader::read_value;
 
+#[cfg(test)]
+mod point_tests;
 #[cfg(test)]
 mod tests;

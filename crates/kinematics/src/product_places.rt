@@ -15,3 +15,11 @@ pub(crate) fn place_of(externals: u32, x: u32, y: u32) -> usize
     let earlier = x * (2 * externals + 1 - x) / 2;
     (earlier + y - x) as usize
 }
+
+// How many products two of this many momenta have.
+pub(crate) fn product_count(externals: u32) -> usize
+    requires { externals ≤ 6 }
+    ensures { result ≡ product_count externals }
+{
+    (externals * (externals + 1) / 2) as usize
+}

@@ -1,6 +1,6 @@
 -- Numbers that are equal modulo p.
 use Rattle.std.proofs.Common.{◌≡◌, ℕ, ◌+◌, ◌-◌, ◌*◌, ◌%◌, ◌<◌, refl, sym, ap, ◌∙◌, arith, add-zero, add_assoc}
-use Rattle.std.proofs.Math.Nat.{add-mod, mod-add-mod, add-mod-mod, mod-lt, mod_self, mod_mod, add-mul, mul_assoc, mul_comm, one-mul}
+use Rattle.std.proofs.Math.Nat.{add-mod, mod-add-mod, add-mod-mod, mod-lt, mod_self, add-mul, mul_assoc, mul_comm, one-mul, zero-mul}
 use Rattle.std.proofs.lemmas.Nat.{mul-mod_first, mul-mod_second}
 
 -- sums of what is equal
@@ -39,3 +39,14 @@ pub undone : (p g u v : ℕ) → (g * u) % p ≡ 1 % p → (u * v * g) % p ≡ v
 undone p g u v one =
     let turned : u * v * g ≡ v * (g * u) = mul_assoc u v g ∙ mul_comm u (v * g) ∙ mul_assoc v g u in
     ap (λ n. n % p) turned ∙ multiples p v (g * u) 1 one ∙ ap (λ n. n % p) (mul_comm v 1 ∙ one-mul v)
+
+-- a multiple that is taken away, and added again
+pub subtracted : (p a v u d : ℕ) → a < p → ((u + (((p - a) % p) * v) % p) % p + (d + a * v)) % p ≡ (u + d) % p
+subtracted p a v u d h =
+    let f : ℕ = (p - a) % p in
+    let gone : (f * v + a * v) % p ≡ 0 % p =
+    ap (λ n. n % p) (sym (add-mul f a v)) ∙ sym (mul-mod_first (f + a) v p) ∙ ap (λ n. (n * v) % p) (opposites p a h) ∙ ap (λ n. n % p) (zero-mul v) in
+    let first : (u + (f * v) % p + (d + a * v)) % p ≡ ((f * v) % p + (u + d + a * v)) % p = ap (λ n. n % p) (omega arith) in
+    let second : (f * v + (u + d + a * v)) % p ≡ (u + d + (f * v + a * v)) % p = ap (λ n. n % p) (omega arith) in
+    mod-add-mod (u + (f * v) % p) p (d + a * v) ∙ first ∙ mod-add-mod (f * v) p (u + d + a * v) ∙ second
+    ∙ sums p (u + d) (f * v + a * v) (u + d) 0 refl gone ∙ ap (λ n. n % p) (add-zero (u + d))

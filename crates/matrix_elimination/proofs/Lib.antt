@@ -1,3 +1,10 @@
-mod Changes
+pub mod Changes
 pub mod Congruences
 pub mod Weights
+pub mod Reducing
+pub mod Balance
+pub mod Taking
+pub mod Cancelling
+pub mod Solving
+pub mod Ends
+pub mod Solutions

@@ -1,7 +1,12 @@
 -- Sums of products: `dot` of two lists as the sum of the entries of the first, weighted by a function of
 -- their places. All lemmas on `dot` are read off from those on `weigh`.
-use Rattle.std.proofs.Common.{◌≡◌, ◌≢◌, ℕ, zero, suc, ◌+◌, ◌*◌, ◌%◌, ◌<◌, List, [], ◌∷◌, ◌++◌, length, map, get_or, replicate, refl, sym, ap, ◌∙◌, arith, zero-add, add-zero, add_assoc}
-use Rattle.std.proofs.Math.Nat.{mul-add, mul_comm, mul_assoc, mul-zero, mul-one, zero-mul}
+use Rattle.std.proofs.Common.{◌≡◌, ◌≢◌, ℕ, zero, suc, ◌+◌, ◌*◌, ◌%◌, ◌<◌, ◌≤◌, List, [], ◌∷◌, ◌++◌, length, get_or, take, replicate, min, inl, inr, refl, sym, ap, ◌∙◌, arith, zero-add, add-zero, add_assoc}
+use Rattle.std.proofs.Math.Nat.{mul-add, mul_comm, mul_assoc, mul-zero, mul-one, zero-mul, suc-ne-zero, add-mod}
+use Rattle.std.proofs.lemmas.Bool.Decides.{nat_tests}
+use Rattle.std.proofs.Math.Numerals.{add-one}
+use Rattle.std.proofs.lemmas.Bool.{cases_lt}
+use Rattle.std.proofs.Math.Seq.{take-nil}
+use Rattle.std.proofs.lemmas.List.{take_all}
 use Rattle.matrix_elimination.specs.Vectors.{dot, column, unit_at}
 use Rattle.matrix_elimination.proofs.Congruences.{sums, multiples}
 
@@ -56,11 +61,34 @@ weigh-scale n (x ∷ xs) f =
     let first : x * (n * f 0) ≡ n * (x * f 0) = sym (mul_assoc x n (f 0)) ∙ ap (λ a. a * f 0) (mul_comm x n) ∙ mul_assoc n x (f 0) in
     omega (arith, first, rest, mul-add n (x * f 0) (weigh xs (λ k. f (suc k))))
 
+-- ---- the unit vectors
+
+pub unit_at-here : (j : ℕ) → unit_at j j ≡ 1
+unit_at-here j = grind (arith, nat_tests)
+
+pub unit_at-other : (j i : ℕ) → i ≢ j → unit_at j i ≡ 0
+unit_at-other j i h = grind (arith, nat_tests)
+
+unit_at-first : (k : ℕ) → unit_at 0 (suc k) ≡ 0
+unit_at-first k = unit_at-other 0 (suc k) (suc-ne-zero k)
+
+unit_at-none : (j : ℕ) → unit_at (suc j) 0 ≡ 0
+unit_at-none j = unit_at-other (suc j) 0 (λ e. suc-ne-zero j (sym e))
+
+unit_at-rest : (j k : ℕ) → unit_at (suc j) (suc k) ≡ unit_at j k
+unit_at-rest j k = grind (arith, nat_tests)
+
 -- one entry alone
 pub weigh-unit : (xs : List ℕ) (j : ℕ) → weigh xs (unit_at j) ≡ get_or xs j 0
 weigh-unit [] j = refl
-weigh-unit (x ∷ xs) zero = ap (λ n. x * 1 + n) (weigh-none xs) ∙ add-zero _ ∙ mul-one x
-weigh-unit (x ∷ xs) (suc j) = ap (λ n. n + weigh xs (unit_at j)) (mul-zero x) ∙ zero-add _ ∙ weigh-unit xs j
+weigh-unit (x ∷ xs) zero =
+    let rest : weigh xs (λ k. unit_at 0 (suc k)) ≡ 0 = weigh-equal xs (λ k. unit_at 0 (suc k)) (λ _. 0) (λ k _. unit_at-first k) ∙ weigh-none xs in
+    let first : x * unit_at 0 0 ≡ x = ap (λ n. x * n) (unit_at-here 0) ∙ mul-one x in
+    omega (arith, rest, first)
+weigh-unit (x ∷ xs) (suc j) =
+    let rest : weigh xs (λ k. unit_at (suc j) (suc k)) ≡ weigh xs (unit_at j) = weigh-equal xs (λ k. unit_at (suc j) (suc k)) (unit_at j) (λ k _. unit_at-rest j k) in
+    let first : x * unit_at (suc j) 0 ≡ 0 = ap (λ n. x * n) (unit_at-none j) ∙ mul-zero x in
+    omega (arith, rest, first, weigh-unit xs j)
 
 -- two sums may be taken in either order
 pub weigh-turn : (xs ys : List ℕ) (f : ℕ → ℕ → ℕ) → weigh xs (λ k. weigh ys (λ i. f k i)) ≡ weigh ys (λ i. weigh xs (λ k. f k i))
@@ -89,3 +117,42 @@ pub dot-zeros : (n : ℕ) (ys : List ℕ) → dot (replicate n 0) ys ≡ 0
 dot-zeros zero ys = refl
 dot-zeros (suc n) [] = refl
 dot-zeros (suc n) (y ∷ ys) = ap (λ a. a + dot (replicate n 0) ys) (zero-mul y) ∙ zero-add _ ∙ dot-zeros n ys
+
+-- one place more
+pub dot-take-suc : (xs ys : List ℕ) (c : ℕ) → dot (take (suc c) xs) ys ≡ dot (take c xs) ys + get_or xs c 0 * get_or ys c 0
+dot-take-suc [] ys c =
+    ap (λ zs. dot zs ys) (take-nil (suc c)) ∙ sym (zero-mul (get_or ys c 0)) ∙ sym (zero-add _) ∙ ap (λ zs. dot zs ys + 0 * get_or ys c 0) (sym (take-nil c))
+dot-take-suc (x ∷ xs) [] zero = sym (mul-zero x) ∙ sym (zero-add _)
+dot-take-suc (x ∷ xs) (y ∷ ys) zero = add-zero (x * y) ∙ sym (zero-add (x * y))
+dot-take-suc (x ∷ xs) [] (suc c) = sym (mul-zero (get_or xs c 0)) ∙ sym (zero-add _)
+dot-take-suc (x ∷ xs) (y ∷ ys) (suc c) =
+    ap (λ n. x * y + n) (dot-take-suc xs ys c) ∙ sym (add_assoc (x * y) (dot (take c xs) ys) (get_or xs c 0 * get_or ys c 0))
+
+pub dot-take-all : (xs ys : List ℕ) (c : ℕ) → length xs ≤ c → dot (take c xs) ys ≡ dot xs ys
+dot-take-all xs ys c h = ap (λ zs. dot zs ys) (take_all c xs h)
+
+-- no more places than the second list has
+pub dot-take-other : (xs ys : List ℕ) (c : ℕ) → length ys ≤ c → dot (take c xs) ys ≡ dot xs ys
+dot-take-other xs [] c h = dot-nil (take c xs) ∙ sym (dot-nil xs)
+dot-take-other [] (y ∷ ys) c h = ap (λ zs. dot zs (y ∷ ys)) (take-nil c)
+dot-take-other (x ∷ xs) (y ∷ ys) zero h = absurd (omega arith)
+dot-take-other (x ∷ xs) (y ∷ ys) (suc c) h = ap (λ n. x * y + n) (dot-take-other xs ys c (omega arith))
+
+-- the numbers of places that a loop over both lists goes through
+pub dot-take-min : (xs ys : List ℕ) (c : ℕ) → min (length xs) (length ys) ≤ c → dot (take c xs) ys ≡ dot xs ys
+dot-take-min xs ys c h =
+    elim (cases_lt (length xs) (length ys)) [
+      | inl less ↦ dot-take-all xs ys c (omega arith)
+      | inr more ↦ dot-take-other xs ys c (omega arith)
+    ]
+
+pub dot-take-add : (p : ℕ) (xs ys : List ℕ) (c : ℕ) → (dot (take c xs) ys % p + (get_or xs c 0 * get_or ys c 0) % p) % p ≡ dot (take (c + 1) xs) ys % p
+dot-take-add p xs ys c =
+    sym (add-mod (dot (take c xs) ys) (get_or xs c 0 * get_or ys c 0) p) ∙ ap (λ n. n % p) (sym (ap (λ n. dot (take n xs) ys) (add-one c) ∙ dot-take-suc xs ys c))
+
+-- the rows' products with a vector, weighed, are the columns' sums, weighed by the vector
+pub dot-columns : (vector multipliers : List ℕ) (rows : List (List ℕ)) → weigh vector (λ x. dot multipliers (column x rows)) ≡ weigh multipliers (λ j. dot (get_or rows j []) vector)
+dot-columns vector multipliers rows =
+    weigh-equal vector (λ x. dot multipliers (column x rows)) (λ x. weigh multipliers (λ j. get_or (get_or rows j []) x 0)) (λ x _. dot-weigh multipliers (column x rows) ∙ weigh-equal multipliers (λ j. get_or (column x rows) j 0) (λ j. get_or (get_or rows j []) x 0) (λ j _. column-at x rows j))
+    ∙ weigh-turn vector multipliers (λ x j. get_or (get_or rows j []) x 0)
+    ∙ weigh-equal multipliers (λ j. weigh vector (λ x. get_or (get_or rows j []) x 0)) (λ j. dot (get_or rows j []) vector) (λ j _. sym (dot-comm (get_or rows j []) vector ∙ dot-weigh vector (get_or rows j [])))

@@ -2,3 +2,5 @@ pub mod Vectors
 pub mod Elimination
 pub mod Fault
 pub mod Steps
+pub mod Systems
+pub mod Solutions

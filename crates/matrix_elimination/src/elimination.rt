@@ -105,6 +105,8 @@ impl Eliminated {
         ensures taken { OnOk result (IsPartial modulus.now width rows.now place self.new) }
         ensures cause { IfErr result (λ fault. HasCause modulus.now fault) }
     {
+        let p = modulus.value();
+        prove!(p > 1);
         let row = &rows[place];
         let mut sum = Solved {
             entries: row.copy(alloc)?,

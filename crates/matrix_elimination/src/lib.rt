@@ -3,9 +3,11 @@
 #![tactic(auto)]
 
 mod elimination;
+mod systems;
 mod vectors;
 
 pub use elimination::{Eliminated, EliminationFault, Solved, eliminate};
+pub use systems::{SystemFault, dot, solve};
 pub use vectors::Vector;
 
 #[cfg(test)]

@@ -1,6 +1,6 @@
 //! Vectors of residues.
 
-ghost use Rattle.std.specs.Prelude.{◌≡◌, ◌≢◌, ◌<◌, ℕ, length, slice_index, All, IfOk, MatchOption};
+ghost use Rattle.std.specs.Prelude.{◌≡◌, ◌≢◌, ◌<◌, ◌≤◌, ℕ, length, slice_index, All, IfOk, MatchOption};
 ghost use Rattle.matrix_elimination.specs.Vectors.{IsVector, unit_at};
 ghost use Rattle.matrix_elimination.specs.Steps.{IsWithMultiple, IsMultiple};
 
@@ -45,6 +45,7 @@ impl Vector {
     // The vector of this length with 1 at this place and 0 elsewhere.
     pub(crate) fn unit(alloc: Global, size: usize, place: usize) -> Result<Vector, OutOfMemory>
         ensures size { IfOk result (λ v. length v ≡ size) }
+        ensures small { IfOk result (λ v. All (λ x. x ≤ 1) v) }
         ensures unit { IfOk result (λ v. (i : ℕ) → i < size → slice_index v i ≡ unit_at place i) }
     {
         let mut entries = Vec::new(alloc);
