@@ -52,7 +52,8 @@ impl Point {
 
     /// The same point.
     pub fn copy(&self, alloc: Global) -> Result<Point, OutOfMemory>
-        ensures { IfOk result (λ point. point ≡ self.now) }
+        ensures value { IfOk result (λ point. point ≡ self.now) }
+        ensures point { IsPoint self.now }
     {
         Ok(Point {
             modulus: self.modulus,

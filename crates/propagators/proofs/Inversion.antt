@@ -6,7 +6,7 @@ use Rattle.std.specs.List.{count_by}
 use Rattle.std.proofs.Common.{◌⊎◌, add-zero}
 use Rattle.std.proofs.Math.Nat.{mod-eq_of_lt, zero-mod, mod-mod}
 use Rattle.std.proofs.Math.ListN.{get_or-map}
-use Rattle.std.proofs.lemmas.List.Sums.{count_by-le-length}
+use Rattle.std.proofs.lemmas.List.Sums.{count_by-le-length, sum_by-cons}
 use Rattle.std.proofs.lemmas.Nat.{mul-mod_first, mul-mod_second}
 use Rattle.std.proofs.lemmas.Bool.{cases_eq}
 use Rattle.matrix_elimination.specs.declared.elimination.Solved.{Solved}
@@ -75,9 +75,14 @@ through p n y f w c g from within weights one =
 -- where all are counted, each is there
 pub all_some : {A : Type 0} (xs : List (Option A)) (c : ℕ) → count_by is_some xs ≡ length xs → c < length xs → (s : A) × (get_or xs c None ≡ Some s)
 all_some [] c all h = absurd (omega arith)
-all_some (None ∷ xs) c all h = let most : count_by is_some xs ≤ length xs = count_by-le-length is_some xs in absurd (omega arith)
+all_some (None ∷ xs) c all h =
+    let most : count_by is_some xs ≤ length xs = count_by-le-length is_some xs in
+    let first : count_by is_some (None ∷ xs) ≡ 0 + count_by is_some xs = sum_by-cons (λ x. cond (is_some x) 1 0) None xs in
+    absurd (omega arith)
 all_some (Some s ∷ xs) zero all h = (s, refl)
-all_some (Some s ∷ xs) (suc c) all h = all_some xs c (let step : 1 + count_by is_some xs ≡ length (Some s ∷ xs) = all in omega arith) (omega arith)
+all_some (Some s ∷ xs) (suc c) all h =
+    let first : count_by is_some (Some s ∷ xs) ≡ 1 + count_by is_some xs = sum_by-cons (λ x. cond (is_some x) 1 0) (Some s) xs in
+    all_some xs c (omega arith) (omega arith)
 
 pub delta-next : (i j : ℕ) → delta (suc i) (suc j) ≡ delta i j
 delta-next i j = elim (cases_eq i j) [
@@ -95,7 +100,7 @@ delta-turned i j = elim (cases_eq i j) [
 pub column-entry : (x k : ℕ) (rows : List (List ℕ)) → entry (column x rows) (suc k) ≡ get_or (get_or rows k []) x 0
 column-entry x k rows = get_or-map (λ row. get_or row x 0) rows k []
 
-multipliers-entry : (i x : ℕ) (solved : List (Option Solved)) → entry (multipliers_at i solved) (suc x) ≡ multiplier_at i (get_or solved x None)
+pub multipliers-entry : (i x : ℕ) (solved : List (Option Solved)) → entry (multipliers_at i solved) (suc x) ≡ multiplier_at i (get_or solved x None)
 multipliers-entry i x solved = get_or-map (λ s. multiplier_at i s) solved x None
 
 pub delta-mod : (p i j : ℕ) → 1 < p → delta i j % p ≡ delta i j

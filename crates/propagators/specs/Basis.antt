@@ -5,7 +5,7 @@ use Rattle.propagators.specs.declared.denominators.Denominator.{Denominator}
 use Rattle.propagators.specs.declared.denominators.Denominator.TheVariants.{Square, Bilinear}
 use Rattle.kinematics.specs.Points.{Point, IsPoint}
 use Rattle.propagators.specs.Sums.{entry}
-use Rattle.propagators.specs.Forms.{Form, product_form, scaled_form, sum_form, product_total}
+use Rattle.propagators.specs.Forms.{Form, product_form, scaled_form, sum_form, IsForm, product_total}
 use Rattle.propagators.specs.Momenta.{residues_of, unit}
 use Rattle.propagators.specs.Denominators.{form_of, IsDenominator}
 use Rattle.propagators.specs.Combinations.{IsCombination, AreIndependent}
@@ -49,7 +49,8 @@ pub record IsDerivative (basis : Basis) (i q j : ℕ) (c : List ℕ) : Type 0 wh
   pub found : slice_get basis.denominators (j - 1) ≡ Some denominator
   pub is : IsCombination basis.point.modulus (forms_of basis) (derivative_form basis i q denominator) c
 
--- what every basis keeps: few momenta, as many denominators as scalar products, and no dependence among them
+-- what every basis keeps: few momenta, as many denominators as scalar products, no dependence among them,
+-- and so one combination at most for each form
 pub record IsBasis (basis : Basis) : Type 0 where
   pub loops_from_1 : 1 ≤ basis.loops
   pub few_loops : basis.loops ≤ 6
@@ -58,3 +59,4 @@ pub record IsBasis (basis : Basis) : Type 0 where
   pub few : length basis.denominators ≤ 20
   pub denominators : All (IsDenominator basis.point.modulus (momenta_of basis)) basis.denominators
   pub independent : AreIndependent basis.point.modulus (forms_of basis)
+  pub unique : (form : Form) (c other : List ℕ) → IsForm basis.point.modulus basis.loops basis.point.externals form → IsCombination basis.point.modulus (forms_of basis) form c → IsCombination basis.point.modulus (forms_of basis) form other → other ≡ c

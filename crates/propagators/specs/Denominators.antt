@@ -18,6 +18,17 @@ form_of loops point (Square q mass) =
 form_of loops point (Bilinear q1 q2 mass) =
     less_mass point.modulus mass (product_form loops point (residues_of point.modulus q1) (residues_of point.modulus q2))
 
+-- the momentum after each loop momentum was replaced by its image, as residues
+abbrev pub replaced_residues : ℕ → List (List ℤ) → List ℤ → List ℕ
+replaced_residues p images q = replaced p (map (residues_of p) images) (residues_of p q)
+
+-- the form of the denominator after each loop momentum was replaced by its image
+abbrev pub image_of : ℕ → Point → List (List ℤ) → Denominator → Form
+image_of loops point images (Square q mass) =
+    less_mass point.modulus mass (product_form loops point (replaced_residues point.modulus images q) (replaced_residues point.modulus images q))
+image_of loops point images (Bilinear q1 q2 mass) =
+    less_mass point.modulus mass (product_form loops point (replaced_residues point.modulus images q1) (replaced_residues point.modulus images q2))
+
 -- momenta with this many coefficients, and a residue as squared mass
 abbrev pub IsDenominator : ℕ → ℕ → Denominator → Type 0
 IsDenominator p width (Square q mass) = (length q ≡ width) × (mass < p)

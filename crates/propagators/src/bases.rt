@@ -91,8 +91,8 @@ impl Basis {
         ensures only { (other : List ℕ) →
             IsDerivative self.now loop_number momentum_number denominator other → other ≡ result.now }
     {
-        let momenta = (self.frame.loops() + self.frame.externals()) as usize;
         let width = self.frame.width() as usize;
+        let momenta = self.frame.loops() as usize + self.frame.externals() as usize;
         let row = (loop_number as usize - 1) * momenta + (momentum_number as usize - 1);
         self.derivatives[row * width + (denominator as usize - 1)].values()
     }

@@ -1,6 +1,6 @@
 //! Sums of multiples of forms.
 
-ghost use Rattle.std.specs.Prelude.{◌≡◌, ◌+◌, ◌%◌, ◌<◌, ℕ, [], All, Some, IfOk, IfSome, length, slice_index};
+ghost use Rattle.std.specs.Prelude.{◌≡◌, ◌+◌, ◌%◌, ◌<◌, ℕ, ◌∷◌, All, Some, IfOk, IfSome, length, slice_index};
 ghost use Rattle.std.specs.List.{slice_index_or};
 ghost use Rattle.matrix_elimination.specs.declared.elimination.Solved.{Solved as SolvedValue};
 ghost use Rattle.matrix_elimination.specs.Vectors.{IsVector, dot};
@@ -54,9 +54,7 @@ impl Combination {
     {
         let weights = weights(alloc, form.products(), &elimination.solved, modulus)?;
         let constant = constant_of(&weights, forms, modulus);
-        let mut values = Vec::new(alloc);
-        values.push(modulus.sub(form.constant(), constant))?;
-        values.extend_from_slice(&weights)?;
+        let values = joined(alloc, modulus.sub(form.constant(), constant), &weights)?;
         Ok(Combination { values })
     }
 }
@@ -125,4 +123,14 @@ fn constant_of(weights: &[u64], forms: &[Form], modulus: &Modulus) -> u64
         sum = modulus.add(sum, modulus.mul(weights[place], constant));
     }
     sum
+}
+
+// The first number and then the rest.
+fn joined(alloc: Global, first: u64, rest: &[u64]) -> Result<Vec<u64>, OutOfMemory>
+    ensures { IfOk result (λ v. v.items ≡ first ∷ rest.now) }
+{
+    let mut values = Vec::new(alloc);
+    values.push(first)?;
+    values.extend_from_slice(rest)?;
+    Ok(values)
 }

@@ -1,10 +1,11 @@
 //! Denominators and their forms.
 
-ghost use Rattle.std.specs.Prelude.{◌≡◌, ◌+◌, IfOk};
-ghost use Rattle.propagators.specs.Denominators.{form_of, IsDenominator};
+ghost use Rattle.std.specs.Prelude.{◌≡◌, ◌+◌, All, IfOk, length};
+ghost use Rattle.propagators.specs.Denominators.{form_of, image_of, IsDenominator};
 ghost use Rattle.propagators.specs.Forms.{IsForm};
 
-use crate::forms::{Form, product};
+use crate::forms::{Form, product, product_of};
+use crate::images::{image_residues, replaced};
 
 use field_word::Modulus;
 use kinematics::{Momentum, Point};
@@ -72,6 +73,40 @@ pub fn form(
         }
         Denominator::Bilinear { left, right, mass } => {
             let both = product(alloc, left, right, loops, point, modulus)?;
+            Ok(both.less_mass(*mass, modulus))
+        }
+    }
+}
+
+/// The form of the denominator after each loop momentum was replaced by its image, one for each loop
+/// momentum. It is computed on residues, so that no coefficient is too large.
+pub fn image(
+    alloc: Global,
+    denominator: &Denominator,
+    images: &[Momentum],
+    loops: u32,
+    point: &Point,
+    modulus: &Modulus,
+) -> Result<Form, OutOfMemory>
+    requires modulus { point.now.modulus ≡ modulus.now }
+    requires denominator { IsDenominator modulus.now (loops + point.now.externals) denominator.now }
+    requires count { length images.now ≡ loops }
+    requires images { All (λ image. length image ≡ loops + point.now.externals) images.now }
+    ensures value { IfOk result (λ form. form ≡ image_of loops point.now images.now denominator.now) }
+    ensures form { IfOk result (λ form. IsForm modulus.now loops point.now.externals form) }
+{
+    let width = loops as usize + point.externals() as usize;
+    let images = image_residues(alloc, images, width, modulus)?;
+    match denominator {
+        Denominator::Square { momentum, mass } => {
+            let momentum = replaced(alloc, momentum, &images, width, modulus)?;
+            let square = product_of(alloc, &momentum, &momentum, loops, point, modulus)?;
+            Ok(square.less_mass(*mass, modulus))
+        }
+        Denominator::Bilinear { left, right, mass } => {
+            let left = replaced(alloc, left, &images, width, modulus)?;
+            let right = replaced(alloc, right, &images, width, modulus)?;
+            let both = product_of(alloc, &left, &right, loops, point, modulus)?;
             Ok(both.less_mass(*mass, modulus))
         }
     }

@@ -16,7 +16,7 @@ use crate::combinations::Combination;
 use crate::denominators::{Denominator, form};
 use crate::faults::BasisFault;
 use crate::forms::{Form, product_of};
-use crate::momenta::{residues, unit};
+use crate::momenta::{coefficient, residues, unit};
 use field_word::Modulus;
 use kinematics::Point;
 use matrix_elimination::{Eliminated, Vector, eliminate};
@@ -50,8 +50,7 @@ impl Model for Frame {
 impl Frame {
     /// The number of loop momenta.
     pub(crate) fn loops(&self) -> u32
-        ensures value { result ≡ self.now.loops }
-        ensures basis { IsBasis self.now }
+        ensures { result ≡ self.now.loops }
     {
         self.loops
     }
@@ -65,7 +64,8 @@ impl Frame {
 
     /// The number of denominators.
     pub(crate) fn width(&self) -> u32
-        ensures { result ≡ length self.now.denominators }
+        ensures value { result ≡ length self.now.denominators }
+        ensures basis { IsBasis self.now }
     {
         self.denominators.len() as u32
     }
@@ -73,7 +73,9 @@ impl Frame {
     /// The combination of the denominators that is this form.
     pub(crate) fn combination(&self, alloc: Global, form: &Form) -> Result<Combination, OutOfMemory>
         requires { IsForm self.now.point.modulus self.now.loops self.now.point.externals form.now }
-        ensures { IfOk result (λ c. IsCombination self.now.point.modulus (forms_of self.now) form.now c) }
+        ensures is { IfOk result (λ c. IsCombination self.now.point.modulus (forms_of self.now) form.now c) }
+        ensures only { IfOk result (λ c. (other : List ℕ) →
+            IsCombination self.now.point.modulus (forms_of self.now) form.now other → other ≡ c) }
     {
         Combination::of_form(alloc, form, &self.forms, &self.elimination, &self.modulus)
     }
@@ -102,8 +104,9 @@ impl Frame {
         let forms = forms(alloc, loops, denominators, point, modulus)?;
         let rows = rows(alloc, &forms)?;
         let mut elimination = eliminate(alloc, &rows, denominators.len(), modulus)?;
-        if let Some(vector) = elimination.cancelled.pop() {
-            return Err(BasisFault::NotBasis { vector });
+        match elimination.cancelled.pop() {
+            Some(vector) => return Err(BasisFault::NotBasis { vector }),
+            None => {}
         }
         Ok(Frame {
             loops,
@@ -150,15 +153,17 @@ impl Frame {
         match denominator {
             Denominator::Square { momentum, mass: _ } => {
                 let momentum = residues(alloc, momentum, &self.modulus)?;
-                let alpha = momentum[loop_number - 1];
+                let alpha = coefficient(&momentum, loop_number);
                 let twice = self.modulus.add(alpha, alpha);
                 self.multiple(alloc, twice, &momentum, momentum_number)
             }
             Denominator::Bilinear { left, right, mass: _ } => {
                 let left = residues(alloc, left, &self.modulus)?;
                 let right = residues(alloc, right, &self.modulus)?;
-                let mut sum = self.multiple(alloc, left[loop_number - 1], &right, momentum_number)?;
-                let other = self.multiple(alloc, right[loop_number - 1], &left, momentum_number)?;
+                let left_alpha = coefficient(&left, loop_number);
+                let right_alpha = coefficient(&right, loop_number);
+                let mut sum = self.multiple(alloc, left_alpha, &right, momentum_number)?;
+                let other = self.multiple(alloc, right_alpha, &left, momentum_number)?;
                 sum.add(&other, &self.modulus);
                 Ok(sum)
             }

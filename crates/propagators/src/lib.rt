@@ -8,11 +8,15 @@ mod denominators;
 mod faults;
 mod forms;
 mod frames;
+mod images;
 mod momenta;
 mod residue_lists;
 
 pub use bases::{Basis, family};
 pub use combinations::Combination;
-pub use denominators::{Denominator, form};
+pub use denominators::{Denominator, form, image};
 pub use faults::BasisFault;
 pub use forms::{Form, product};
+
+#[cfg(test)]
+mod tests;

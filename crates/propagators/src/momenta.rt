@@ -1,25 +1,14 @@
 //! Momenta as lists of residues, one for each loop momentum and then one for each external momentum.
 
 ghost use Rattle.std.specs.Prelude.{◌≡◌, ◌+◌, ◌<◌, ◌≤◌, ℕ, ℤ, List, All, IfOk, length, map};
-ghost use Rattle.propagators.specs.Momenta.{residue_of, residues_of, unit, replacement, replaced};
+ghost use Rattle.propagators.specs.Sums.{entry};
+ghost use Rattle.propagators.specs.Momenta.{residues_of, unit};
 
 
 use field_word::Modulus;
-use kinematics::Momentum;
+use kinematics::{Momentum, residue};
 use out_of_memory::OutOfMemory;
 use std::alloc::Global;
-
-/// The residue of a coefficient.
-fn residue(coefficient: i16, modulus: &Modulus) -> u64
-    ensures value { result ≡ residue_of modulus.now coefficient }
-    ensures below { result < modulus.now }
-{
-    if coefficient >= 0 {
-        modulus.reduce(coefficient as u128)
-    } else {
-        modulus.neg(modulus.reduce(coefficient.unsigned_abs() as u128))
-    }
-}
 
 /// The residues of the coefficients.
 pub(crate) fn residues(
@@ -33,7 +22,7 @@ pub(crate) fn residues(
     let coefficients = momentum.coefficients();
     let mut residues = Vec::new(alloc);
     for coefficient in coefficients {
-        residues.push(residue(*coefficient, modulus))?;
+        residues.push(residue(i64::from(*coefficient), modulus))?;
     }
     Ok(residues)
 }
@@ -48,4 +37,13 @@ pub(crate) fn unit(alloc: Global, width: usize, number: usize) -> Result<Vec<u64
         unit.push(u64::from(place + 1 == number))?;
     }
     Ok(unit)
+}
+
+/// The coefficient of the momentum with this number.
+pub(crate) fn coefficient(momentum: &[u64], number: usize) -> u64
+    requires from_1 { 1 ≤ number }
+    requires within { number ≤ length momentum.now }
+    ensures { result ≡ entry momentum.now number }
+{
+    momentum[number - 1]
 }

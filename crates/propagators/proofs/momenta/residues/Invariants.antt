@@ -1,5 +1,5 @@
 use Rattle.std.proofs.Common.{◌≡◌, map, take, All, ◌<◌}
-use Rattle.propagators.specs.Momenta.{residue_of}
+use Rattle.kinematics.specs.Rules.{residue_of}
 use Rattle.propagators.proofs.momenta.residues.Given as goal
 
 abbrev pub invariant-loop-coefficient : goal.invariant-loop-coefficient
