@@ -63,14 +63,14 @@ module _ (p : ℕ) (order : Order) (positive : 0 < p) where
       ap (λ m. m % p) (with_last y)
       ∙ by_integrals x l.integral
       (λ here.
-        ap (λ m. (n + m) % p) (coefficient_at-same x y here)
-        ∙ add-mod-mod n (l.coefficient + t.coefficient) p
-        ∙ ap (λ m. m % p) (sym (add_assoc n l.coefficient t.coefficient))
-        ∙ (λ i. (n + sym (coefficient_at-same x l here) i + sym (coefficient_at-same x t (here ∙ same)) i) % p))
+      ap (λ m. (n + m) % p) (coefficient_at-same x y here)
+      ∙ add-mod-mod n (l.coefficient + t.coefficient) p
+      ∙ ap (λ m. m % p) (sym (add_assoc n l.coefficient t.coefficient))
+      ∙ (λ i. (n + sym (coefficient_at-same x l here) i + sym (coefficient_at-same x t (here ∙ same)) i) % p))
       (λ other.
-        ap (λ m. (n + m) % p) (coefficient_at-other x y other ∙ sym (coefficient_at-other x l other))
-        ∙ ap (λ m. m % p) (sym (add-zero (n + coefficient_at x l)))
-        ∙ ap (λ m. (n + coefficient_at x l + m) % p) (sym (coefficient_at-other x t (λ e. other (e ∙ sym same)))))
+      ap (λ m. (n + m) % p) (coefficient_at-other x y other ∙ sym (coefficient_at-other x l other))
+      ∙ ap (λ m. m % p) (sym (add-zero (n + coefficient_at x l)))
+      ∙ ap (λ m. (n + coefficient_at x l + m) % p) (sym (coefficient_at-other x t (λ e. other (e ∙ sym same)))))
       ∙ ap (λ m. (m + coefficient_at x t) % p) (sym (with_last l))
 
   raised_parts : (front : List Term) (l t : Term) → l.integral ≡ t.integral → Descends order (front ++ l ∷ []) → All (λ (u : Term). u.coefficient < p) front →
@@ -93,7 +93,7 @@ module _ (p : ℕ) (order : Order) (positive : 0 < p) where
       let before : old ≡ front ++ l ∷ [] = split_last old t some in
       let after : new ≡ front ++ y ∷ [] = raised t ∙ split_set old y some in
       let added : IsAdded p order (front ++ l ∷ []) t (front ++ y ∷ []) =
-          raised_parts front l t same (subst (Descends order) before (Descends-from_pairs order old descend)) (All-take (λ (u : Term). u.coefficient < p) (length old - 1) old below) in
+      raised_parts front l t same (subst (Descends order) before (Descends-from_pairs order old descend)) (All-take (λ (u : Term). u.coefficient < p) (length old - 1) old below) in
       subst (λ (ts : List Term). IsAdded p order old t ts) (sym after) (subst (λ (ts : List Term). IsAdded p order ts t (front ++ y ∷ [])) (sym before) added)
 
   -- the term comes after each that was kept
@@ -116,7 +116,7 @@ module _ (p : ℕ) (order : Order) (positive : 0 < p) where
       let l = get_or old (length old - 1) t in
       let before : old ≡ take (length old - 1) old ++ l ∷ [] = split_last old t some in
       let above : compare order l.integral t.integral ≡ Greater =
-          above_of (compare order l.integral t.integral) (no_less t some) (λ e. differs some (compare-IsAntisymmetric order l.integral t.integral e)) in
+      above_of (compare order l.integral t.integral) (no_less t some) (λ e. differs some (compare-IsAntisymmetric order l.integral t.integral e)) in
       subst (λ (ts : List Term). AllOver order t.integral ts) (sym before) (all_over (take (length old - 1) old) l t (subst (Descends order) before descends) above)
 
   pub IsAdded-pushed : (old new : List Term) (t : Term) → AllPairs (IsAbove order) old → AllBelow p old → t.coefficient < p → IsNoLess order old t → (0 < length old → (get_or old (length old - 1) t).integral ≢ t.integral) → new ≡ old ++ t ∷ [] → IsAdded p order old t new
@@ -168,7 +168,7 @@ module _ (p : ℕ) (order : Order) where
               let here : get_or sorted (i - 1 + 1) d ≡ t = ap (λ k. get_or sorted k d) next ∙ is d in
               let before : (get_or kept (length kept - 1) d).integral ≡ (get_or sorted (i - 1) d).integral = was.last d later in
               let lower : compare order (get_or sorted (i - 1) d).integral (get_or sorted (i - 1 + 1) d).integral ≡ Less =
-                  (λ j. compare order (sym before j) (here j).integral) ∙ less in
+              (λ j. compare order (sym before j) (here j).integral) ∙ less in
               absurd (true≢false (sym (ap is_lt lower) ∙ rise (i - 1) d start inside))
         ]
 
@@ -220,7 +220,7 @@ dropped_total x (t ∷ ts) = by (has_coefficient t) refl (dropped_total x ts)
     by true e rest = total_at-cons x t (filter has_coefficient ts) ∙ ap (λ m. coefficient_at x t + m) rest ∙ sym (total_at-cons x t ts)
     by false e rest =
         let none : coefficient_at x t ≡ 0 =
-            by_integrals x t.integral (λ here. coefficient_at-same x t here ∙ zero_of t.coefficient e) (λ other. coefficient_at-other x t other) in
+        by_integrals x t.integral (λ here. coefficient_at-same x t here ∙ zero_of t.coefficient e) (λ other. coefficient_at-other x t other) in
         rest ∙ sym (total_at-cons x t ts ∙ ap (λ m. m + total_at x ts) none ∙ zero-add (total_at x ts))
 
 dropped_none : (ts : List Term) → AllByRecursion (λ (t : Term). t.coefficient ≢ 0) (filter has_coefficient ts)

@@ -17,5 +17,5 @@ denominator_sum-is p seed up multiplier first residues place is same times x =
     let all : first ≡ product_of p (minus p (index_at seed.indices (place + 1))) (residue_at residues 0) = times ∙ ap (λ m. product_of p m (residue_at residues 0)) same in
     (λ i. coefficient_at x (record { integral = is i; coefficient = all i }) + sum_to (length (is i).indices) (λ k. coefficient_at x (term_of (is i) (lowered (is i).indices k) (product_of p (same i) (residue_at residues k)))))
     ∙ ap (λ n. coefficient_at x (term_of seed (raised seed.indices (place + 1)) (product_of p (minus p (index_at seed.indices (place + 1))) (residue_at residues 0)))
-        + sum_to n (λ k. coefficient_at x (term_of seed (lowered (raised seed.indices (place + 1)) k) (product_of p (minus p (index_at seed.indices (place + 1))) (residue_at residues k)))))
-      (length-shifted seed.indices place (pos 1))
+    + sum_to n (λ k. coefficient_at x (term_of seed (lowered (raised seed.indices (place + 1)) k) (product_of p (minus p (index_at seed.indices (place + 1))) (residue_at residues k)))))
+    (length-shifted seed.indices place (pos 1))

@@ -75,8 +75,8 @@ module _ (basis : Basis) (i q : ℕ) where
               Gains-same zeros old new (λ x. sum_to n (λ j. sum_of before.residues j x) + denominator_sum basis.point.modulus seed (length basis.denominators) c (n + 1) x) (λ x. sum_to (n + 1) (λ j. sum_of after j x))
               (λ x. sym (sum_to-more n (λ j. sum_of after j x)
               ∙ (λ k. sum_to-same n (λ j. sum_of after j x) (λ j. sum_of before.residues j x)
-                (λ j low high. ap (λ cs. denominator_sum basis.point.modulus seed (length basis.denominators) cs j x) (with_before (n + 1) c before.residues j (omega arith))) k
-                + ap (λ cs. denominator_sum basis.point.modulus seed (length basis.denominators) cs (n + 1) x) (with_here (n + 1) c before.residues (n + 1) refl) k)))
+              (λ j low high. ap (λ cs. denominator_sum basis.point.modulus seed (length basis.denominators) cs j x) (with_before (n + 1) c before.residues j (omega arith))) k
+              + ap (λ cs. denominator_sum basis.point.modulus seed (length basis.denominators) cs (n + 1) x) (with_here (n + 1) c before.residues (n + 1) refl) k)))
               (Gains-more zeros old middle new (λ x. sum_to n (λ j. sum_of before.residues j x)) (denominator_sum basis.point.modulus seed (length basis.denominators) c (n + 1)) before.gains step);
         }
 
@@ -95,7 +95,7 @@ IsEquation-made p basis d i q seed zeros order row middle terms positive same fi
     let m = basis.point.modulus in
     let above : 0 < m = omega arith in
     let all = Gains-more zeros [] middle terms (λ x. coefficient_at x (term_of seed seed.indices (cond (q == i) d 0)))
-        (λ x. sum_to (length basis.denominators) (λ j. denominator_sum m seed (length basis.denominators) (appended.residues j) j x)) first appended.gains in
+    (λ x. sum_to (length basis.denominators) (λ j. denominator_sum m seed (length basis.denominators) (appended.residues j) j x)) first appended.gains in
     record {
       residues = appended.residues;
       derived = appended.derived;
@@ -114,7 +114,7 @@ one_equation basis d i q seed zeros order row other h g =
     let p = basis.point.modulus in
     let n = length basis.denominators in
     let same : (x : Integral) → equation_sum p seed n d i q h.residues x ≡ equation_sum p seed n d i q g.residues x =
-        λ x. ap (λ m. coefficient_at x (term_of seed seed.indices (cond (q == i) d 0)) + m)
-            (sum_to-same n (λ j. denominator_sum p seed n (h.residues j) j x) (λ j. denominator_sum p seed n (g.residues j) j x)
-            (λ j low high. ap (λ cs. denominator_sum p seed n cs j x) (g.derived.only j (h.residues j) low high (h.derived.is j low high)))) in
+    λ x. ap (λ m. coefficient_at x (term_of seed seed.indices (cond (q == i) d 0)) + m)
+    (sum_to-same n (λ j. denominator_sum p seed n (h.residues j) j x) (λ j. denominator_sum p seed n (g.residues j) j x)
+    (λ j low high. ap (λ cs. denominator_sum p seed n cs j x) (g.derived.only j (h.residues j) low high (h.derived.is j low high)))) in
     same_row p order row other h.is_row g.is_row (λ x. h.sums x ∙ ap (λ m. unless_zero zeros x (m % p)) (same x) ∙ sym (g.sums x))

@@ -56,4 +56,4 @@ pub record IsEquation (basis : Basis) (d i q : ℕ) (seed : Integral) (zeros : L
   pub derived : AreDerived basis i q (length basis.denominators) residues
   pub is_row : IsRow basis.point.modulus order row
   pub sums : (x : Integral) →
-    coefficient row x ≡ unless_zero zeros x (equation_sum basis.point.modulus seed (length basis.denominators) d i q residues x % basis.point.modulus)
+      coefficient row x ≡ unless_zero zeros x (equation_sum basis.point.modulus seed (length basis.denominators) d i q residues x % basis.point.modulus)

@@ -25,6 +25,7 @@ pub(crate) fn collected(
     ensures row { IfOk result (IsRow modulus.now order) }
     ensures sums { IfOk result (λ row. (x : IntegralValue) → coefficient row x ≡ total_at x terms.items % modulus.now) }
 {
+    // A modulus is above 0, and so is what a residue is taken of.
     let _p = modulus.value();
     let mut terms = terms;
     terms.sort_unstable_by(|x, y| order.compare(&y.integral, &x.integral));
@@ -67,7 +68,11 @@ fn add_sorted(
     ensures { OnOk result (IsAdded modulus.now order kept.old.items term.now kept.new.items) }
 {
     let length = kept.len();
-    if 0 < length && order.compare(&kept[length - 1].integral, &term.integral).is_eq() {
+    if 0 < length
+        && order
+            .compare(&kept[length - 1].integral, &term.integral)
+            .is_eq()
+    {
         add_to_last(kept, term.coefficient, modulus);
         return Ok(());
     }

@@ -81,7 +81,7 @@ fn push_lowered(
     ensures below { OnOk result (AllBelow modulus.now terms.new.items) }
     ensures gains { OnOk result (Gains zeros.now terms.old.items terms.new.items
         (λ x. sum_to (length raised.now.indices) (λ k. coefficient_at x (term_of raised.now (lowered raised.now.indices k)
-            (product_of modulus.now multiplier (residue_at residues.now k)))))) }
+        (product_of modulus.now multiplier (residue_at residues.now k)))))) }
 {
     for k in 0..raised.indices().len() {
         let coefficient = modulus.mul(multiplier, residues[k + 1]);
@@ -108,7 +108,12 @@ fn push_lowered_term(
     if coefficient == 0 {
         return Ok(());
     }
-    push_term(terms, shifted(alloc, raised, place, -1)?, coefficient, zeros)
+    push_term(
+        terms,
+        shifted(alloc, raised, place, -1)?,
+        coefficient,
+        zeros,
+    )
 }
 
 // Minus an index, as a residue.

@@ -1,9 +1,10 @@
 //! Equations of the one-loop bubble, the one-loop triangle and a two-loop vacuum diagram modulo 101. The
 //! bubble's were worked by hand, the others by a script that solves for the denominators on its own.
 
-ghost use Rattle.std.specs.Prelude.{◌≡◌, ◌≤◌, ◌↔◌, All, IsTrue, IfOk};
+ghost use Rattle.std.specs.Prelude.{◌≡◌, ◌≤◌, ◌↔◌, All, IsTrue, IfOk, length};
 ghost use Rattle.kinematics.specs.Rules.{IsRule};
 ghost use Rattle.propagators.specs.Denominators.{IsDenominator};
+ghost use Rattle.propagators.specs.Forms.{product_total};
 ghost use Rattle.ibp_generator.specs.Shifts.{IsSeedIndex};
 
 use super::*;
@@ -69,12 +70,7 @@ fn is_rule(rule: &Rule, externals: u32, modulus: &Modulus) -> bool
 fn are_rules(rules: &[Rule], externals: u32, modulus: &Modulus) -> bool
     ensures { IsTrue result → All (IsRule modulus.now externals) rules.now }
 {
-    for rule in rules {
-        if !is_rule(rule, externals, modulus) {
-            return false;
-        }
-    }
-    true
+    rules.iter().all(|rule| is_rule(rule, externals, modulus))
 }
 
 fn point_of(
@@ -114,15 +110,11 @@ fn is_denominator(denominator: &Denominator, width: usize, modulus: &Modulus) ->
 fn are_denominators(denominators: &[Denominator], width: usize, modulus: &Modulus) -> bool
     ensures { IsTrue result → All (IsDenominator modulus.now width) denominators.now }
 {
-    for denominator in denominators {
-        if !is_denominator(denominator, width, modulus) {
-            return false;
-        }
-    }
-    true
+    denominators
+        .iter()
+        .all(|denominator| is_denominator(denominator, width, modulus))
 }
 
-// The basis of the denominators, where there are 2 or 3 of them.
 fn basis_of(
     alloc: Global,
     loops: u32,
@@ -130,17 +122,15 @@ fn basis_of(
     point: &Point,
     modulus: &Modulus,
 ) -> Result<Basis, Wrong>
-    requires { point.now.modulus ≡ modulus.now }
+    requires modulus { point.now.modulus ≡ modulus.now }
+    requires loops_from_1 { 1 ≤ loops }
+    requires few_loops { loops ≤ 6 }
+    requires count { length denominators.now ≡ product_total loops point.now.externals }
+    requires few { length denominators.now ≤ 20 }
     ensures { IfOk result (λ basis. basis.point.modulus ≡ modulus.now) }
 {
-    let externals = point.externals();
-    let count = loops as usize * (loops as usize + 1) / 2 + loops as usize * externals as usize;
-    if loops < 1
-        || 6 < loops
-        || 3 < denominators.len()
-        || denominators.len() != count
-        || !are_denominators(denominators, loops as usize + externals as usize, modulus)
-    {
+    let width = loops as usize + point.externals() as usize;
+    if !are_denominators(denominators, width, modulus) {
         return Err(Wrong::Denominators);
     }
     match family(alloc, loops, denominators, point, modulus) {
@@ -177,12 +167,7 @@ struct Asked<'a> {
     zeros: &'a [u32],
 }
 
-fn equation_of(
-    alloc: Global,
-    basis: &Basis,
-    asked: &Asked,
-    modulus: &Modulus,
-) -> Result<Row, Wrong>
+fn equation_of(alloc: Global, basis: &Basis, asked: &Asked, modulus: &Modulus) -> Result<Row, Wrong>
     requires { basis.now.point.modulus ≡ modulus.now }
 {
     let zeros = ZeroSectors::new(alloc, asked.zeros)?;
@@ -192,7 +177,7 @@ fn equation_of(
         || asked.loop_number < 1
         || basis.loops() < asked.loop_number
         || asked.momentum_number < 1
-        || basis.loops() + basis.externals() < asked.momentum_number
+        || basis.loops() as usize + (basis.externals() as usize) < asked.momentum_number as usize
     {
         return Err(Wrong::Seed);
     }
@@ -255,17 +240,51 @@ fn equations_of_the_bubble(rt: HostRuntime) -> Result<(), Fail> {
     let basis = basis_of(alloc, 1, &denominators, &point, &modulus)?;
 
     let rows: [(&[i8], u32, &[u32], &[(&[i8], u64)]); 7] = [
-        (&[1, 1], 1, &[], &[(&[1, 2], 5), (&[1, 1], 4), (&[0, 2], 100)]),
+        (
+            &[1, 1],
+            1,
+            &[],
+            &[(&[1, 2], 5), (&[1, 1], 4), (&[0, 2], 100)],
+        ),
         (&[1, 1], 1, &[1, 2], &[(&[1, 2], 5), (&[1, 1], 4)]),
         // the two terms of I(1,1) cancel
-        (&[1, 1], 2, &[], &[(&[2, 1], 5), (&[1, 2], 96), (&[0, 2], 1), (&[2, 0], 100)]),
+        (
+            &[1, 1],
+            2,
+            &[],
+            &[(&[2, 1], 5), (&[1, 2], 96), (&[0, 2], 1), (&[2, 0], 100)],
+        ),
         (&[1, 1], 2, &[1, 2], &[(&[2, 1], 5), (&[1, 2], 96)]),
-        (&[2, -1], 1, &[], &[(&[2, -1], 4), (&[2, 0], 96), (&[1, 0], 1)]),
-        (&[100, -100], 2, &[], &[(&[101, -101], 1), (&[101, -100], 96), (&[100, -100], 99), (&[100, -99], 96), (&[99, -99], 1)]),
+        (
+            &[2, -1],
+            1,
+            &[],
+            &[(&[2, -1], 4), (&[2, 0], 96), (&[1, 0], 1)],
+        ),
+        (
+            &[100, -100],
+            2,
+            &[],
+            &[
+                (&[101, -101], 1),
+                (&[101, -100], 96),
+                (&[100, -100], 99),
+                (&[100, -99], 96),
+                (&[99, -99], 1),
+            ],
+        ),
         (&[1, 1], 2, &[3], &[]),
     ];
     for (seed, momentum, zeros, terms) in rows {
-        assert!(rt; gives(alloc, &basis, ask(seed, 1, momentum, zeros), &modulus, terms)?);
+        assert!(rt;
+            gives(
+                alloc,
+                &basis,
+                ask(seed, 1, momentum, zeros),
+                &modulus,
+                terms
+            )?
+        );
     }
     Ok(())
 }
@@ -289,14 +308,59 @@ fn equations_of_the_triangle(rt: HostRuntime) -> Result<(), Fail> {
     let basis = basis_of(alloc, 1, &denominators, &point, &modulus)?;
 
     let rows: [(&[i8], u32, &[u32], &[(&[i8], u64)]); 4] = [
-        (&[1, 1, 1], 1, &[], &[(&[1, 1, 2], 5), (&[1, 1, 1], 3), (&[0, 2, 1], 100), (&[0, 1, 2], 100)]),
-        (&[1, 1, 1], 2, &[], &[(&[1, 1, 2], 96), (&[0, 2, 1], 1), (&[0, 1, 2], 1), (&[2, 0, 1], 100), (&[1, 0, 2], 100)]),
+        (
+            &[1, 1, 1],
+            1,
+            &[],
+            &[
+                (&[1, 1, 2], 5),
+                (&[1, 1, 1], 3),
+                (&[0, 2, 1], 100),
+                (&[0, 1, 2], 100),
+            ],
+        ),
+        (
+            &[1, 1, 1],
+            2,
+            &[],
+            &[
+                (&[1, 1, 2], 96),
+                (&[0, 2, 1], 1),
+                (&[0, 1, 2], 1),
+                (&[2, 0, 1], 100),
+                (&[1, 0, 2], 100),
+            ],
+        ),
         // sector 4 is zero as a subsector of 5, and so is 1
-        (&[1, 1, 1], 3, &[5], &[(&[2, 1, 1], 5), (&[2, 1, 0], 100), (&[1, 2, 0], 100)]),
-        (&[2, 0, -1], 3, &[], &[(&[3, 0, -2], 99), (&[3, -1, -1], 2), (&[3, 0, -1], 10), (&[2, 0, -1], 1), (&[2, -1, 0], 100)]),
+        (
+            &[1, 1, 1],
+            3,
+            &[5],
+            &[(&[2, 1, 1], 5), (&[2, 1, 0], 100), (&[1, 2, 0], 100)],
+        ),
+        (
+            &[2, 0, -1],
+            3,
+            &[],
+            &[
+                (&[3, 0, -2], 99),
+                (&[3, -1, -1], 2),
+                (&[3, 0, -1], 10),
+                (&[2, 0, -1], 1),
+                (&[2, -1, 0], 100),
+            ],
+        ),
     ];
     for (seed, momentum, zeros, terms) in rows {
-        assert!(rt; gives(alloc, &basis, ask(seed, 1, momentum, zeros), &modulus, terms)?);
+        assert!(rt;
+            gives(
+                alloc,
+                &basis,
+                ask(seed, 1, momentum, zeros),
+                &modulus,
+                terms
+            )?
+        );
     }
     Ok(())
 }
@@ -319,12 +383,52 @@ fn equations_of_a_vacuum_diagram(rt: HostRuntime) -> Result<(), Fail> {
     let basis = basis_of(alloc, 2, &denominators, &point, &modulus)?;
 
     let rows: [(&[i8], u32, u32, &[(&[i8], u64)]); 3] = [
-        (&[1, 1, 1], 1, 1, &[(&[2, 1, 1], 95), (&[1, 1, 2], 98), (&[1, 1, 1], 4), (&[0, 1, 2], 100)]),
-        (&[1, 1, 1], 1, 2, &[(&[2, 1, 1], 6), (&[1, 1, 2], 6), (&[0, 1, 2], 2), (&[1, 0, 2], 100), (&[2, 1, 0], 99)]),
-        (&[1, 2, -1], 2, 1, &[(&[1, 3, -2], 97), (&[1, 3, -1], 12), (&[1, 2, 0], 3), (&[0, 3, -1], 4), (&[0, 2, 0], 1)]),
+        (
+            &[1, 1, 1],
+            1,
+            1,
+            &[
+                (&[2, 1, 1], 95),
+                (&[1, 1, 2], 98),
+                (&[1, 1, 1], 4),
+                (&[0, 1, 2], 100),
+            ],
+        ),
+        (
+            &[1, 1, 1],
+            1,
+            2,
+            &[
+                (&[2, 1, 1], 6),
+                (&[1, 1, 2], 6),
+                (&[0, 1, 2], 2),
+                (&[1, 0, 2], 100),
+                (&[2, 1, 0], 99),
+            ],
+        ),
+        (
+            &[1, 2, -1],
+            2,
+            1,
+            &[
+                (&[1, 3, -2], 97),
+                (&[1, 3, -1], 12),
+                (&[1, 2, 0], 3),
+                (&[0, 3, -1], 4),
+                (&[0, 2, 0], 1),
+            ],
+        ),
     ];
     for (seed, loop_number, momentum, terms) in rows {
-        assert!(rt; gives(alloc, &basis, ask(seed, loop_number, momentum, &[]), &modulus, terms)?);
+        assert!(rt;
+            gives(
+                alloc,
+                &basis,
+                ask(seed, loop_number, momentum, &[]),
+                &modulus,
+                terms
+            )?
+        );
     }
     Ok(())
 }

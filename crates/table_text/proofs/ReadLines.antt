@@ -1,5 +1,5 @@
 -- The lines of a text are read back one by one.
-use Rattle.std.proofs.Common.{◌≡◌, ◌≢◌, ℕ, zero, suc, ◌<◌, List, [], ◌∷◌, ◌++◌, length, refl, sym, ap, ◌∙◌, arith, append_assoc, codes}
+use Rattle.std.proofs.Common.{◌≡◌, ◌≢◌, ℕ, List, [], ◌∷◌, ◌++◌, length, refl, sym, ap, ◌∙◌, arith, append_assoc, codes}
 use Rattle.std.specs.Fmt.{signed_decimal}
 use Rattle.std.specs.List.{flat_map, join_by, AllByRecursion}
 use Rattle.std.proofs.lemmas.List.{append_cancel_left}
@@ -44,9 +44,9 @@ module _ (names : List (List ℕ)) (are : AreFamilyNames names) where
       let ts = descending_terms (form x) in
       let us = descending_terms (other y) in
       let first = cut 32 (text_of x) (text_of y) (behind ts s) (behind us t) (lacks_blank names are x lx.named) (lacks_blank names are y ly.named) refl refl
-          (sym (line_and form x s) ∙ e ∙ line_and other y t) in
+      (sym (line_and form x s) ∙ e ∙ line_and other y t) in
       let second = cut 10 (sum_text name ts) (sum_text name us) (10 ∷ s) (10 ∷ t) (sum_without_end names are ts lx.terms) (sum_without_end names are us ly.terms) refl refl
-          (append_cancel_left (codes " = ") _ _ first.1) in
+      (append_cancel_left (codes " = ") _ _ first.1) in
       record {
         integral = same_integral names are x y lx.named ly.named first.0;
         terms = same_sum names are ts us lx.terms ly.terms second.0;

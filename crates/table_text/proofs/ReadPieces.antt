@@ -1,6 +1,6 @@
 -- Integrals, terms and sums are read back from their texts.
-use Rattle.std.proofs.Common.{◌≡◌, ◌≢◌, ℕ, zero, suc, ◌+◌, ◌%◌, ◌/◌, ◌<◌, ◌≤◌, ◌^◌, ◌⊎◌, inl, inr, List, [], ◌∷◌, ◌++◌, length, get_or, refl, sym, ap, ◌∙◌, arith, append_assoc, length-append, codes}
-use Rattle.std.specs.Prelude.{ℤ, pos, negsuc, decimal, All}
+use Rattle.std.proofs.Common.{◌≡◌, ℕ, suc, ◌<◌, ◌≤◌, ◌^◌, inl, inr, List, [], ◌∷◌, ◌++◌, length, refl, sym, ap, arith, length-append, codes}
+use Rattle.std.specs.Prelude.{ℤ, pos, negsuc, decimal}
 use Rattle.std.specs.Fmt.{signed_decimal}
 use Rattle.std.specs.List.{flat_map, join_by, AllByRecursion}
 use Rattle.std.proofs.lemmas.Bool.{cases_order}
@@ -11,7 +11,7 @@ use lib.Signed.{mag}
 use Rattle.integral_index.specs.Integral.{Integral, IsIndex}
 use Rattle.table_text.specs.Pieces.{integral_text, name_of, sum_text, term_text}
 use Rattle.table_text.specs.Laws.{AreFamilyNames, IsNamed}
-use Rattle.table_text.proofs.Cutting.{Lacks, Begins, cut, lacks_each, lacks-append, lacks-flat_map, same_joined, same_some}
+use Rattle.table_text.proofs.Cutting.{Lacks, cut, lacks_each, lacks-append, lacks-flat_map, same_joined, same_some}
 
 -- ---- numbers
 

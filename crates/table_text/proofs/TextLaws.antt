@@ -1,9 +1,9 @@
 -- What the text of a table tells of it.
-use Rattle.std.proofs.Common.{◌≡◌, ◌≢◌, ℕ, zero, suc, ◌<◌, ◌≤◌, ◌^◌, Bool, true, false, ◌&&◌, T, List, [], ◌∷◌, ◌++◌, length, get_or, refl, sym, ap, subst, ◌∙◌, cond, Some, arith, codes, unwrap_or}
+use Rattle.std.proofs.Common.{◌≡◌, ◌≢◌, ℕ, zero, suc, ◌<◌, Bool, true, false, T, List, [], ◌∷◌, length, get_or, refl, sym, ap, ◌∙◌, cond, Some, arith, unwrap_or}
 use Rattle.std.specs.Prelude.{All, Contains}
 use Rattle.std.specs.List.{AllByRecursion, list_all}
 use Rattle.std.specs.FinMap as finite
-use Rattle.std.specs.FinMap.{IsAntisymmetric, find, is_sorted}
+use Rattle.std.specs.FinMap.{find, is_sorted}
 use Rattle.std.specs.FinMap.Entries.{below_all}
 use Rattle.std.specs.declared.cmp.Ordering.{Ordering}
 use Rattle.std.specs.declared.cmp.Ordering.TheVariants.{Less, Equal, Greater}
@@ -13,19 +13,16 @@ use mathlib.Core.Bool.{false≢true}
 use Rattle.std.proofs.lemmas.Cmp.{back_total, tied_itself}
 use Rattle.std.proofs.lemmas.Bool.{and_parts}
 use Rattle.std.proofs.lemmas.List.Elements.{recursion_from_All, All-from_recursion, All-contains, Contains-get_or}
-use Rattle.integral_index.specs.declared.Order.{Order}
 use Rattle.integral_index.specs.Integral.{Integral}
 use Rattle.integral_index.specs.Order.{by_fields, compare}
 use Rattle.integral_index.proofs.Orders.{by_fields-total, by_fields-IsAntisymmetric, compare-total}
-use Rattle.kinematics.specs.Names.{IsName}
 use Rattle.kinematics.specs.Tokens.{is_name_byte}
 use Rattle.sparse_row.specs.Row.{Row, coefficient, IsRow}
 use Rattle.reduction_core.specs.Table.{Table}
-use Rattle.reduction_core.specs.NormalForm.{normal_form}
 use Rattle.reduction_core.proofs.Differences.{normal_form_is_row}
-use Rattle.table_text.specs.Pieces.{descending_terms, name_of}
+use Rattle.table_text.specs.Pieces.{descending_terms}
 use Rattle.table_text.specs.TableText.{form_of}
-use Rattle.table_text.specs.Laws.{AreFamilyNames, IsNamed, IsTextOf, IsPlain, TextTellsSelection, TextTellsTerms, TextTellsNormalForms, NamesArePlain}
+use Rattle.table_text.specs.Laws.{AreFamilyNames, IsTextOf, TextTellsSelection, TextTellsTerms, TextTellsNormalForms, NamesArePlain}
 use Rattle.table_text.proofs.DescendingTerms.{find-other, flipped}
 use Rattle.table_text.proofs.ReadPieces.{IsWritten}
 use Rattle.table_text.proofs.ReadLines.{IsLine, AreSameTexts, same_lines}
@@ -140,7 +137,7 @@ pub tells_forms : TextTellsNormalForms
 tells_forms names zeros others table other selection chosen text x are is too same member =
     let terms = terms_told names are zeros others table other selection chosen text x is too member in
     let order : (form_of zeros table x).order ≡ (form_of others other x).order =
-        (form_is_row names are zeros table selection text is x).ordered ∙ same ∙ sym (form_is_row names are others other chosen text too x).ordered in
+    (form_is_row names are zeros table selection text is x).ordered ∙ same ∙ sym (form_is_row names are others other chosen text too x).ordered in
     λ i. record { order = order i; terms = terms i }
 
 -- ---- the names of the input

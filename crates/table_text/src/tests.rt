@@ -73,7 +73,10 @@ fn the_text_and_the_masters_of_two_families(rt: HostRuntime) -> Result<(), Fail>
         Name::new(alloc, "a")?.ok_or("a name")?,
         Name::new(alloc, "b_2")?.ok_or("a name")?,
     ];
-    let zeros = [ZeroSectors::new(alloc, &[])?, ZeroSectors::new(alloc, &[2])?];
+    let zeros = [
+        ZeroSectors::new(alloc, &[])?,
+        ZeroSectors::new(alloc, &[2])?,
+    ];
     let selection = [
         integral(alloc, 1, &[-1, 0])?,
         integral(alloc, 0, &[1])?,

@@ -59,11 +59,7 @@ pub fn masters(
 }
 
 // Appends how many masters there are, and a line for each.
-fn push_masters(
-    text: &mut Vec<u8>,
-    names: &[Name],
-    masters: &[Integral],
-) -> Result<(), OutOfMemory>
+fn push_masters(text: &mut Vec<u8>, names: &[Name], masters: &[Integral]) -> Result<(), OutOfMemory>
     ensures { OnOk result (text.new.items ≡ text.old.items ++ masters_text (name_of names.now) masters.now) }
 {
     text.extend_from_slice(b"masters ")?;

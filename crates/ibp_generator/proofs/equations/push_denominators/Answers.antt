@@ -27,8 +27,8 @@ loop-place-preserved c =
     let seed = c.args.seed.now in
     let residues = c.derivative-residues.result.now in
     let gains : Gains c.args.zeros.now c.loop-place.terms.items c.push_denominator.new.terms.items (denominator_sum c.args.basis.now.point.modulus seed (length c.args.basis.now.denominators) residues (c.loop-place.place + 1)) =
-        subst (λ p. Gains c.args.zeros.now c.loop-place.terms.items c.push_denominator.new.terms.items (denominator_sum p seed (length c.args.basis.now.denominators) residues (c.loop-place.place + 1))) (sym c.requires.modulus)
-        (subst (λ n. Gains c.args.zeros.now c.loop-place.terms.items c.push_denominator.new.terms.items (denominator_sum c.args.modulus.now seed n residues (c.loop-place.place + 1))) c.requires.width c.in_ok-push_denominator.ensures.gains) in
+    subst (λ p. Gains c.args.zeros.now c.loop-place.terms.items c.push_denominator.new.terms.items (denominator_sum p seed (length c.args.basis.now.denominators) residues (c.loop-place.place + 1))) (sym c.requires.modulus)
+    (subst (λ n. Gains c.args.zeros.now c.loop-place.terms.items c.push_denominator.new.terms.items (denominator_sum c.args.modulus.now seed n residues (c.loop-place.place + 1))) c.requires.width c.in_ok-push_denominator.ensures.gains) in
     record {
       below = c.in_ok-push_denominator.ensures.below;
       appended = AreAppended-more c.args.basis.now c.args.loop_number c.args.momentum_number seed c.args.zeros.now c.loop-place.place c.args.terms.now.items c.loop-place.terms.items c.push_denominator.new.terms.items

@@ -9,7 +9,7 @@ returns-then-index-lt0-clause-value c =
     let below : c.args.index <ℤ pos 0 = grind (arith, ints) in
     let value : to_z w8 (of_z w8 c.args.index) ≡ c.args.index = omega (arith, ints) in
     let size : c.reduce-size.result ≡ unsigned_abs c.args.index % c.args.modulus.now =
-        c.reduce-size.ensures.value ∙ ap (λ n. n % c.args.modulus.now) (c.from.ensures ∙ c.unsigned_abs.ensures.value ∙ ap unsigned_abs value) in
+    c.reduce-size.ensures.value ∙ ap (λ n. n % c.args.modulus.now) (c.from.ensures ∙ c.unsigned_abs.ensures.value ∙ ap unsigned_abs value) in
     minus-negative c.args.modulus.now c.args.index c.reduce-size.result below size
 
 pub returns-else-index-lt0-clause-value : goal.returns-else-index-lt0-clause-value
@@ -17,5 +17,5 @@ returns-else-index-lt0-clause-value c =
     let above : pos 0 ≤ℤ c.args.index = grind (arith, ints) in
     let value : to_z w8 (of_z w8 c.args.index) ≡ c.args.index = omega (arith, ints) in
     let size : c.reduce-size.result ≡ unsigned_abs c.args.index % c.args.modulus.now =
-        c.reduce-size.ensures.value ∙ ap (λ n. n % c.args.modulus.now) (c.from.ensures ∙ c.unsigned_abs.ensures.value ∙ ap unsigned_abs value) in
+    c.reduce-size.ensures.value ∙ ap (λ n. n % c.args.modulus.now) (c.from.ensures ∙ c.unsigned_abs.ensures.value ∙ ap unsigned_abs value) in
     c.neg.ensures.value ∙ minus-positive c.args.modulus.now c.args.index c.reduce-size.result above size

@@ -24,10 +24,10 @@ returns-clause-gains c =
     let first : Integral → ℕ = λ x. coefficient_at x (record { integral = up; coefficient = c.mul.result }) in
     let further : Integral → ℕ = λ x. sum_to (length up.indices) (λ k. coefficient_at x (term_of up (lowered up.indices k) (product_of p multiplier (residue_at residues k)))) in
     let same : multiplier ≡ minus p (index_at seed.indices (c.args.place + 1)) =
-        c.minus-multiplier.ensures.value ∙ ap (minus p) (index_read seed.indices c.indices.result.now c.args.place c.requires.seed c.requires.place c.indices.ensures.value) in
+    c.minus-multiplier.ensures.value ∙ ap (minus p) (index_read seed.indices c.indices.result.now c.args.place c.requires.seed c.requires.place c.indices.ensures.value) in
     on_ok_weaker c.push_lowered.result
     (λ later.
-      Gains-same zeros c.args.terms.now.items c.push_lowered.new.terms.items (λ x. first x + further x) (denominator_sum p seed (length seed.indices) residues (c.args.place + 1))
-      (denominator_sum-is p seed up multiplier c.mul.result residues c.args.place c.in_ok-raised.ensures same c.mul.ensures.value)
-      (Gains-more zeros c.args.terms.now.items c.push_term.new.terms.items c.push_lowered.new.terms.items first further c.in_ok-push_term.ensures.gains later))
+    Gains-same zeros c.args.terms.now.items c.push_lowered.new.terms.items (λ x. first x + further x) (denominator_sum p seed (length seed.indices) residues (c.args.place + 1))
+    (denominator_sum-is p seed up multiplier c.mul.result residues c.args.place c.in_ok-raised.ensures same c.mul.ensures.value)
+    (Gains-more zeros c.args.terms.now.items c.push_term.new.terms.items c.push_lowered.new.terms.items first further c.in_ok-push_term.ensures.gains later))
     c.push_lowered.ensures.gains

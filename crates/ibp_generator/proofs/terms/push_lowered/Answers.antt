@@ -22,9 +22,9 @@ loop-k-preserved c =
     let here : ℕ → Integral → ℕ = λ k x. coefficient_at x (term_of r (lowered r.indices k) (coefficient k)) in
     let k = c.loop-k.k in
     let step : Gains zeros middle new (here (k + 1)) =
-        Gains-same zeros middle new (λ x. coefficient_at x (term_of r (lowered r.indices (k + 1)) c.mul-coefficient.result)) (here (k + 1))
-        (λ x. ap (λ n. coefficient_at x (term_of r (lowered r.indices (k + 1)) n)) c.mul-coefficient.ensures.value)
-        c.in_ok-push_lowered_term.ensures.gains in
+    Gains-same zeros middle new (λ x. coefficient_at x (term_of r (lowered r.indices (k + 1)) c.mul-coefficient.result)) (here (k + 1))
+    (λ x. ap (λ n. coefficient_at x (term_of r (lowered r.indices (k + 1)) n)) c.mul-coefficient.ensures.value)
+    c.in_ok-push_lowered_term.ensures.gains in
     record {
       below = c.in_ok-push_lowered_term.ensures.below c.args.modulus.now c.mul-coefficient.ensures.below c.loop-k.invariant.below;
       gains = Gains-same zeros old new (λ x. sum_to k (λ j. here j x) + here (k + 1) x) (λ x. sum_to (k + 1) (λ j. here j x)) (λ x. sym (sum_to-more k (λ j. here j x)))

@@ -21,7 +21,7 @@ returns-then-coefficient-eq0-clause-gains c =
 pub returns-clause-gains : goal.returns-clause-gains
 returns-clause-gains c =
     let shown : is_zero_sector c.args.zeros.now (sector_of c.args.integral.indices) ≡ false =
-        ap (λ (u : Unit). is_zero_sector c.args.zeros.now u.sector) (sym c.unit.ensures) ∙ sym c.is_zero.ensures ∙ c.if-is_zero.false in
+    ap (λ (u : Unit). is_zero_sector c.args.zeros.now u.sector) (sym c.unit.ensures) ∙ sym c.is_zero.ensures ∙ c.if-is_zero.false in
     subst (λ (ts : List Term). Gains c.args.zeros.now c.args.terms.now.items ts (λ x. coefficient_at x (record { integral = c.args.integral; coefficient = c.args.coefficient })))
     (sym c.in_ok-push.ensures.items)
     (Gains-push c.args.zeros.now c.args.terms.now.items c.args.integral c.args.coefficient shown)
