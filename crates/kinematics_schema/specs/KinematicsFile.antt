@@ -1,6 +1,6 @@
 -- How the file of kinematics is read. The project's own, after the file of this name of Kira
 -- (arXiv:1705.05610).
-use Rattle.std.specs.Prelude.{ℕ, ℤ, true, false, if◌then◌else◌, nat_le, Option, Some, None, List, [], ◌∷◌, length, remove, Ok, codes}
+use Rattle.std.specs.Prelude.{ℕ, true, false, if◌then◌else◌, nat_le, Option, Some, None, List, [], ◌∷◌, length, remove, Ok, codes}
 use Rattle.yaml_text.specs.declared.tree.Tree.{Tree}
 use Rattle.yaml_text.specs.declared.tree.Pair.{Pair}
 use Rattle.yaml_text.specs.Lines.{Bytes}

@@ -1,5 +1,4 @@
-use Rattle.std.proofs.Common.{◌≡◌, ◌+◌, length, ap, ◌∙◌, arith}
-use Rattle.std.specs.List.{remove}
+use Rattle.std.proofs.Common.{arith}
 use Rattle.std.proofs.lemmas.List.Edits.{length-remove}
 use Rattle.input_schema.proofs.Steps.{refused, then_refuses, then_refuses_later}
 use Rattle.kinematics_schema.specs.KinematicsFile.{ReadsConserved}

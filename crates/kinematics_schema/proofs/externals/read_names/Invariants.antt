@@ -1,4 +1,4 @@
-use Rattle.std.proofs.Common.{◌+◌, ◌≤◌, ◌≡◌, length}
+use Rattle.std.proofs.Common.{◌+◌, ◌≡◌, length}
 use Rattle.input_schema.specs.declared.faults.File.TheVariants as file
 use Rattle.input_schema.specs.Readings.{Is}
 use Rattle.input_schema.specs.Names.{new_name}

@@ -1,6 +1,6 @@
-use Rattle.std.proofs.Common.{None, [], codes}
+use Rattle.std.proofs.Common.{[], codes}
 use Rattle.input_schema.specs.Maps.{value_of}
-use Rattle.input_schema.proofs.Steps.{given, not_given}
+use Rattle.input_schema.proofs.Steps.{given}
 use Rattle.kinematics_schema.specs.KinematicsFile.{ReadsInvariants}
 use Rattle.kinematics_schema.proofs.invariants.read_invariants.Goals as goal
 

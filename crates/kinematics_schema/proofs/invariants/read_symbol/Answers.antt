@@ -1,4 +1,4 @@
-use Rattle.std.proofs.Common.{None, [], codes}
+use Rattle.std.proofs.Common.{None, codes}
 use Rattle.input_schema.specs.Maps.{value_of}
 use Rattle.input_schema.proofs.Steps.{given, not_given}
 use Rattle.kinematics_schema.specs.KinematicsFile.{ReadsSymbol}

@@ -1,0 +1,17 @@
+//! Reads the file of integral families: their names, loop momenta, sectors, propagators and symmetries.
+#![tactic(auto)]
+
+mod content;
+mod laws;
+mod loops;
+mod propagators;
+mod reader;
+mod scope;
+mod sectors;
+mod symmetries;
+#[cfg(test)]
+mod tests;
+
+pub use content::{Family, Momenta, Propagator, Symmetry};
+pub use laws::reading_is_single;
+pub use reader::read;
