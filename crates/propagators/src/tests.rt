@@ -83,11 +83,18 @@ fn all_fit(denominators: &[Denominator], width: usize, modulus: &Modulus) -> boo
     true
 }
 
+// Whether the momentum has this many coefficients.
+fn is_wide(momentum: &Momentum, width: usize) -> bool
+    ensures { OnTrue result (length momentum.now ≡ width) }
+{
+    momentum.coefficients().len() == width
+}
+
 fn all_wide(momenta: &[Momentum], width: usize) -> bool
     ensures { OnTrue result (All (λ momentum. length momentum ≡ width) momenta.now) }
 {
     for momentum in momenta {
-        if momentum.coefficients().len() != width {
+        if !is_wide(momentum, width) {
             return false;
         }
     }
