@@ -6,7 +6,7 @@ ghost use Rattle.propagators.specs.Denominators.{IsDenominator};
 
 use super::*;
 use field_word::{Composite, Modulus};
-use kinematics::{Momentum, Point, PointFault, Rule, point};
+use kinematics::{Momentum, Point, PointFault, Rule, point, residue};
 use out_of_memory::OutOfMemory;
 use std::alloc::Global;
 use std::test::Fail;
@@ -174,110 +174,149 @@ fn family_of(
     family(alloc, loops, denominators, point, modulus)
 }
 
-// Whether the derivative of the denominator j by the loop momentum i, times the momentum q, is this.
-fn derives(basis: &Basis, i: u32, q: u32, j: u32, wanted: &[u64]) -> bool {
+// Whether the values are the residues of the numbers, one for each.
+fn are_residues_of(values: &[u64], numbers: &[i64], modulus: &Modulus) -> bool {
+    if values.len() != numbers.len() {
+        return false;
+    }
+    for (value, number) in values.iter().zip(numbers) {
+        if *value != residue(*number, modulus) {
+            return false;
+        }
+    }
+    true
+}
+
+// Whether the derivative of the denominator j by the loop momentum i, times the momentum q, has the
+// residues of these whole numbers.
+fn derives(basis: &Basis, i: u32, q: u32, j: u32, wanted: &[i64], modulus: &Modulus) -> bool {
     let width = basis.width();
     let momenta = basis.loops() as usize + basis.externals() as usize;
     if i < 1 || i > basis.loops() || q < 1 || q as usize > momenta || j < 1 || j > width {
         return false;
     }
-    basis.derivative(i, q, j) == wanted
+    are_residues_of(basis.derivative(i, q, j), wanted, modulus)
 }
 
-// The massless triangle at (p1 + p2)^2 = 2, worked by hand: D2 - D1 = 2 k1·p1 and D1 - D3 = 2 k1·p2.
-#[test]
-fn the_massless_triangle_has_its_derivatives(rt: HostRuntime) -> Result<(), Fail> {
-    let alloc = rt.alloc();
-    let p = Modulus::new(101)?;
+// The massless triangle at (p1 + p2)^2 = 2.
+fn triangle(alloc: Global, modulus: &Modulus) -> Result<Basis, Fail> {
     let rules = [
         rule(alloc, &[1, 0], 0)?,
         rule(alloc, &[0, 1], 0)?,
-        rule(alloc, &[1, 1], 2)?,
+        rule(alloc, &[1, 1], modulus.reduce(2))?,
     ];
-    let point = point_of(alloc, &rules, 2, &p)?;
+    let point = point_of(alloc, &rules, 2, modulus)?;
     let denominators = [
         square(alloc, &[1, 0, 0], 0)?,
         square(alloc, &[1, 1, 0], 0)?,
         square(alloc, &[1, 0, -1], 0)?,
     ];
-    let basis = family_of(alloc, 1, &denominators, &point, &p)?;
-    assert_eq!(rt; basis.loops(), 1);
-    assert_eq!(rt; basis.externals(), 2);
-    assert_eq!(rt; basis.width(), 3);
-    assert!(rt; derives(&basis, 1, 1, 1, &[0, 2, 0, 0]));
-    assert!(rt; derives(&basis, 1, 1, 2, &[0, 1, 1, 0]));
-    assert!(rt; derives(&basis, 1, 1, 3, &[0, 1, 0, 1]));
-    assert!(rt; derives(&basis, 1, 2, 1, &[0, 100, 1, 0]));
-    assert!(rt; derives(&basis, 1, 2, 2, &[0, 100, 1, 0]));
-    assert!(rt; derives(&basis, 1, 2, 3, &[99, 100, 1, 0]));
-    assert!(rt; derives(&basis, 1, 3, 1, &[0, 1, 0, 100]));
-    assert!(rt; derives(&basis, 1, 3, 2, &[2, 1, 0, 100]));
-    assert!(rt; derives(&basis, 1, 3, 3, &[0, 1, 0, 100]));
+    Ok(family_of(alloc, 1, &denominators, &point, modulus)?)
+}
+
+// Worked by hand: D2 - D1 = 2 k1·p1 and D1 - D3 = 2 k1·p2.
+#[test]
+fn the_massless_triangle_has_its_derivatives(rt: HostRuntime) -> Result<(), Fail> {
+    for p in [101, 3, 15] {
+        let p = Modulus::new(p)?;
+        let basis = triangle(rt.alloc(), &p)?;
+        assert_eq!(rt; basis.loops(), 1);
+        assert_eq!(rt; basis.externals(), 2);
+        assert_eq!(rt; basis.width(), 3);
+        assert!(rt; derives(&basis, 1, 1, 1, &[0, 2, 0, 0], &p));
+        assert!(rt; derives(&basis, 1, 1, 2, &[0, 1, 1, 0], &p));
+        assert!(rt; derives(&basis, 1, 1, 3, &[0, 1, 0, 1], &p));
+        assert!(rt; derives(&basis, 1, 2, 1, &[0, -1, 1, 0], &p));
+        assert!(rt; derives(&basis, 1, 2, 2, &[0, -1, 1, 0], &p));
+        assert!(rt; derives(&basis, 1, 2, 3, &[-2, -1, 1, 0], &p));
+        assert!(rt; derives(&basis, 1, 3, 1, &[0, 1, 0, -1], &p));
+        assert!(rt; derives(&basis, 1, 3, 2, &[2, 1, 0, -1], &p));
+        assert!(rt; derives(&basis, 1, 3, 3, &[0, 1, 0, -1], &p));
+    }
     Ok(())
 }
 
-// The massless box at s = 2 and t = 6, so p1·p2 = 1, p2·p3 = 3 and p1·p3 = -4, worked by hand.
-#[test]
-fn the_massless_box_has_its_derivatives(rt: HostRuntime) -> Result<(), Fail> {
-    let alloc = rt.alloc();
-    let p = Modulus::new(101)?;
+// The massless box at s = 2 and t = 6.
+fn four_legs(alloc: Global, modulus: &Modulus) -> Result<Basis, Fail> {
     let rules = [
         rule(alloc, &[1, 0, 0], 0)?,
         rule(alloc, &[0, 1, 0], 0)?,
         rule(alloc, &[0, 0, 1], 0)?,
-        rule(alloc, &[1, 1, 0], 2)?,
-        rule(alloc, &[0, 1, 1], 6)?,
+        rule(alloc, &[1, 1, 0], modulus.reduce(2))?,
+        rule(alloc, &[0, 1, 1], modulus.reduce(6))?,
         rule(alloc, &[1, 1, 1], 0)?,
     ];
-    let point = point_of(alloc, &rules, 3, &p)?;
+    let point = point_of(alloc, &rules, 3, modulus)?;
     let denominators = [
         square(alloc, &[1, 0, 0, 0], 0)?,
         square(alloc, &[1, 1, 0, 0], 0)?,
         square(alloc, &[1, 1, 1, 0], 0)?,
         square(alloc, &[1, 1, 1, 1], 0)?,
     ];
-    let basis = family_of(alloc, 1, &denominators, &point, &p)?;
-    assert!(rt; derives(&basis, 1, 4, 3, &[0, 0, 0, 100, 1]));
-    assert!(rt; derives(&basis, 1, 4, 1, &[2, 0, 0, 100, 1]));
-    assert!(rt; derives(&basis, 1, 3, 4, &[6, 0, 100, 1, 0]));
+    Ok(family_of(alloc, 1, &denominators, &point, modulus)?)
+}
+
+// Worked by hand: p1·p2 = 1, p2·p3 = 3 and p1·p3 = -4.
+#[test]
+fn the_massless_box_has_its_derivatives(rt: HostRuntime) -> Result<(), Fail> {
+    for p in [101, 3, 15] {
+        let p = Modulus::new(p)?;
+        let basis = four_legs(rt.alloc(), &p)?;
+        assert!(rt; derives(&basis, 1, 4, 3, &[0, 0, 0, -1, 1], &p));
+        assert!(rt; derives(&basis, 1, 4, 1, &[2, 0, 0, -1, 1], &p));
+        assert!(rt; derives(&basis, 1, 3, 4, &[6, 0, -1, 1, 0], &p));
+    }
     Ok(())
 }
 
-// Two loops with k1^2, k2^2, (k1 - k2)^2 - 5, (k1 + p1)^2 and k2·p1 - 3 at p1·p1 = 7, worked by hand.
-#[test]
-fn two_loops_with_a_bilinear_denominator(rt: HostRuntime) -> Result<(), Fail> {
-    let alloc = rt.alloc();
-    let p = Modulus::new(101)?;
-    let point = one_external(alloc, &p)?;
+// Two loops with k1^2, k2^2, (k1 - k2)^2 - 5, (k1 + p1)^2 and k2·p1 - 3 at p1·p1 = 7.
+fn two_loops(alloc: Global, modulus: &Modulus) -> Result<Basis, Fail> {
+    let point = one_external(alloc, modulus)?;
     let denominators = [
         square(alloc, &[1, 0, 0], 0)?,
         square(alloc, &[0, 1, 0], 0)?,
-        square(alloc, &[1, -1, 0], 5)?,
+        square(alloc, &[1, -1, 0], modulus.reduce(5))?,
         square(alloc, &[1, 0, 1], 0)?,
-        bilinear(alloc, &[0, 1, 0], &[0, 0, 1], 3)?,
+        bilinear(alloc, &[0, 1, 0], &[0, 0, 1], modulus.reduce(3))?,
     ];
-    let basis = family_of(alloc, 2, &denominators, &point, &p)?;
-    assert!(rt; derives(&basis, 1, 1, 3, &[5, 1, 100, 1, 0, 0]));
-    assert!(rt; derives(&basis, 2, 3, 3, &[13, 1, 0, 0, 100, 2]));
-    assert!(rt; derives(&basis, 2, 1, 5, &[47, 50, 0, 0, 51, 0]));
-    assert!(rt; derives(&basis, 2, 3, 5, &[7, 0, 0, 0, 0, 0]));
-    assert!(rt; derives(&basis, 1, 2, 5, &[0, 0, 0, 0, 0, 0]));
+    Ok(family_of(alloc, 2, &denominators, &point, modulus)?)
+}
+
+// Worked by hand: D4 - D1 - 7 = 2 k1·p1.
+#[test]
+fn two_loops_with_a_bilinear_denominator(rt: HostRuntime) -> Result<(), Fail> {
+    // The modulus, and the residues of 1/2, -1/2 and -7/2.
+    for (p, half, minus_half, constant) in [(101, 51, 50, 47), (3, 2, 1, 1), (15, 8, 7, 4)] {
+        let p = Modulus::new(p)?;
+        let basis = two_loops(rt.alloc(), &p)?;
+        assert!(rt; derives(&basis, 1, 1, 3, &[5, 1, -1, 1, 0, 0], &p));
+        assert!(rt; derives(&basis, 2, 3, 3, &[13, 1, 0, 0, -1, 2], &p));
+        assert!(rt; derives(&basis, 2, 1, 5, &[constant, minus_half, 0, 0, half, 0], &p));
+        assert!(rt; derives(&basis, 2, 3, 5, &[7, 0, 0, 0, 0, 0], &p));
+        assert!(rt; derives(&basis, 1, 2, 5, &[0, 0, 0, 0, 0, 0], &p));
+    }
     Ok(())
 }
 
-// k1^2 and k1·(k1 + p1) - 3 at p1·p1 = 7: both terms of the bilinear derivative, worked by hand.
-#[test]
-fn a_bilinear_denominator_has_both_terms(rt: HostRuntime) -> Result<(), Fail> {
-    let alloc = rt.alloc();
-    let p = Modulus::new(101)?;
-    let point = one_external(alloc, &p)?;
+// k1^2 and k1·(k1 + p1) - 3 at p1·p1 = 7.
+fn square_and_bilinear(alloc: Global, modulus: &Modulus) -> Result<Basis, Fail> {
+    let point = one_external(alloc, modulus)?;
     let denominators = [
         square(alloc, &[1, 0], 0)?,
-        bilinear(alloc, &[1, 0], &[1, 1], 3)?,
+        bilinear(alloc, &[1, 0], &[1, 1], modulus.reduce(3))?,
     ];
-    let basis = family_of(alloc, 1, &denominators, &point, &p)?;
-    assert!(rt; derives(&basis, 1, 1, 2, &[3, 1, 1]));
-    assert!(rt; derives(&basis, 1, 2, 2, &[13, 99, 2]));
+    Ok(family_of(alloc, 1, &denominators, &point, modulus)?)
+}
+
+// Both terms of the bilinear derivative, worked by hand.
+#[test]
+fn a_bilinear_denominator_has_both_terms(rt: HostRuntime) -> Result<(), Fail> {
+    for p in [101, 3, 15] {
+        let p = Modulus::new(p)?;
+        let basis = square_and_bilinear(rt.alloc(), &p)?;
+        assert!(rt; derives(&basis, 1, 1, 2, &[3, 1, 1], &p));
+        assert!(rt; derives(&basis, 1, 2, 2, &[13, -2, 2], &p));
+    }
     Ok(())
 }
 
@@ -313,6 +352,8 @@ fn one_denominator_twice_makes_no_basis(rt: HostRuntime) -> Result<(), Fail> {
     let denominators = [square(alloc, &[1, 1], 0)?, square(alloc, &[1, 1], 0)?];
     let by_101 = dependence(alloc, &denominators, &Modulus::new(101)?)?;
     assert_eq!(rt; by_101.as_slice(), [1, 100].as_slice());
+    let by_3 = dependence(alloc, &denominators, &Modulus::new(3)?)?;
+    assert_eq!(rt; by_3.as_slice(), [1, 2].as_slice());
     let by_15 = dependence(alloc, &denominators, &Modulus::new(15)?)?;
     assert_eq!(rt; by_15.as_slice(), [1, 14].as_slice());
     Ok(())
@@ -409,10 +450,13 @@ fn an_image_may_pass_a_thousand(rt: HostRuntime) -> Result<(), Fail> {
 #[test]
 fn a_product_is_written_in_denominators(rt: HostRuntime) -> Result<(), Fail> {
     let alloc = rt.alloc();
-    let p = Modulus::new(101)?;
-    let point = one_external(alloc, &p)?;
-    let values = bubble_values(alloc, &point, &p)?;
-    assert_eq!(rt; values.as_slice(), [47, 51, 51].as_slice());
+    // The modulus, and the residues of 1/2 and -7/2.
+    for (p, half, constant) in [(101, 51, 47), (3, 2, 1), (15, 8, 4)] {
+        let p = Modulus::new(p)?;
+        let point = one_external(alloc, &p)?;
+        let values = bubble_values(alloc, &point, &p)?;
+        assert_eq!(rt; values.as_slice(), [constant, half, half].as_slice());
+    }
     Ok(())
 }
 
