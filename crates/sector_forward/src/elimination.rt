@@ -111,8 +111,8 @@ impl Eliminated {
 /// Eliminates a unit from rows whose greatest integrals are of it.
 ///
 /// The rows are brought into reduced form over all their integrals, not only over those of the unit:
-/// so the rest, which lesser units take, stays short, and rows that depend on others vanish. One step
-/// is counted. Source: hep-ph/0102033.
+/// so rows of the rest that depend on others vanish. How many terms are left is told in bench/README.md.
+/// One step is counted. Source: hep-ph/0102033.
 ///
 /// `Composite` only with a divisor of the modulus that lies between 1 and it.
 pub fn eliminate<L: Ledger>(

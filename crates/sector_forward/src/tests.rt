@@ -288,3 +288,56 @@ fn a_composite_modulus_is_named_by_a_divisor(rt: HostRuntime) -> Result<(), Fail
     }
     Ok(())
 }
+
+// Modulo 15, where 3, 5 and 10 have no inverse but 2, 8 and 7 have: 8, 2 and 13. Half of 2 u + 5 e is
+// u + 10 e. Four of it from 4 u + 3 e + 2 f leave 8 e + 2 f, twice which is e + 4 f, the rest. Three of it
+// from 7 v + 3 u + 10 f leave 7 v + 10 f, since 30 e vanishes, and 13 times that is v + 10 f. Ten of the
+// rest from u + 10 e leave u + 5 f. Here u, v, e and f are I(1,1), I(2,1), I(0,1) and I(1,0).
+#[test]
+fn a_unit_is_eliminated_modulo_15(rt: HostRuntime) -> Result<(), Fail> {
+    let alloc = rt.alloc();
+    let p = Modulus::new(15)?;
+    let made = eliminated(
+        alloc,
+        &[
+            &[([2, 1, 0], 7), ([1, 1, 0], 3), ([1, 0, 0], 10)],
+            &[([1, 1, 0], 4), ([0, 1, 0], 3), ([1, 0, 0], 2)],
+            &[([1, 1, 0], 2), ([0, 1, 0], 5)],
+        ],
+        3,
+        p,
+    )?;
+    let rules: [Terms; 2] = [
+        &[([1, 1, 0], 1), ([1, 0, 0], 5)],
+        &[([2, 1, 0], 1), ([1, 0, 0], 10)],
+    ];
+    let rest: [Terms; 1] = [&[([0, 1, 0], 1), ([1, 0, 0], 4)]];
+    assert!(rt; are(alloc, made.rows(), &rules, &p)?);
+    assert!(rt; are(alloc, made.rest(), &rest, &p)?);
+    assert_eq!(rt; made.modulus().value(), 15);
+    Ok(())
+}
+
+// The tadpole at d = 7 and m2 = 3, 5 I(1) = 6 I(2) and 3 I(2) = 12 I(3). Modulo 25 the inverses of 6 and 12
+// are 21 and 23, so I(2) = 105 I(1) = 5 I(1), and I(3) = 69 I(2) = 19 I(2) = 95 I(1) = 20 I(1).
+#[test]
+fn a_unit_is_eliminated_modulo_25(rt: HostRuntime) -> Result<(), Fail> {
+    let alloc = rt.alloc();
+    let p = Modulus::new(25)?;
+    let made = eliminated(
+        alloc,
+        &[
+            &[([1, 0, 0], 5), ([2, 0, 0], 19)],
+            &[([2, 0, 0], 3), ([3, 0, 0], 13)],
+        ],
+        1,
+        p,
+    )?;
+    let wanted: [Terms; 2] = [
+        &[([2, 0, 0], 1), ([1, 0, 0], 20)],
+        &[([3, 0, 0], 1), ([1, 0, 0], 5)],
+    ];
+    assert!(rt; are(alloc, made.rows(), &wanted, &p)?);
+    assert_eq!(rt; made.rest().len(), 0);
+    Ok(())
+}
