@@ -89,3 +89,42 @@ fn too_many_seeds(rt: HostRuntime) -> Result<(), Fail> {
     }
     Ok(())
 }
+
+// The seeds of four specs of a family with three indices and no zero sector.
+//
+// A sector with t indices has C(r,t) * C(3 - t + s,s) seeds up to r and s. So the first spec has
+// 3 * 12 + 3 * 12 + 4 = 76. The second names the subsector 3 with the same r and s: its 36 are among them.
+// The third has 18 + 18 + 30 = 66 with larger r, and shares these 36. The fourth has one dot at most, so r is
+// t + 1 at most, and 3 * 12 + 3 * 9 + 4 = 67: those without a second numerator, 3 * 6 + 3 * 6 + 4 = 40, are
+// among the first 76. Together they are 76 + (66 - 36) + (67 - 40) = 133.
+fn overlapping(alloc: Global, most: u64) -> Result<Vec<Integral>, SeedFault>
+    requires { most ≤ 2 ^ 17 }
+{
+    let specs = [
+        spec(7, 4, 1, None),
+        spec(3, 4, 1, None),
+        spec(3, 6, 1, None),
+        spec(7, 6, 2, Some(1)),
+    ];
+    let shapes = [Shape {
+        width: 3,
+        zeros: ZeroSectors::new(alloc, &[])?,
+    }];
+    list(alloc, &specs, &shapes, Order::Standard, most)
+}
+
+#[test]
+fn specs_that_overlap_count_each_seed_once(rt: HostRuntime) -> Result<(), Fail> {
+    let seeds = overlapping(rt.alloc(), 133)?;
+    assert_eq!(rt; seeds.len(), 133);
+    Ok(())
+}
+
+#[test]
+fn too_many_seeds_of_specs_that_overlap(rt: HostRuntime) -> Result<(), Fail> {
+    match overlapping(rt.alloc(), 132) {
+        Err(fault) => assert_eq!(rt; fault, SeedFault::TooMany { count: 133 }),
+        Ok(_) => assert!(rt; false, "more than 132 seeds are no fault"),
+    }
+    Ok(())
+}
