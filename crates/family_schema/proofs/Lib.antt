@@ -1,2 +1,4 @@
 pub mod Single
 pub mod Bound
+mod SectorBounds
+mod ScopeCounts

@@ -1,3 +1,4 @@
 pub mod Scope
 pub mod FamilyFile
+pub mod Sound
 pub mod Laws

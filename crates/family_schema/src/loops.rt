@@ -66,6 +66,7 @@ pub fn read_loops(
     requires counts { HasCounts kinematics.now.conserved (length kinematics.now.externals) }
     requires few { scope.independent_count kinematics.now ≤ 6 }
     ensures reading { Answers (ReadsLoops kinematics.now node.now) result }
+    ensures some { IfOk result (λ loops. 1 ≤ length loops) }
     ensures few { IfOk result (λ loops. length loops ≤ 6) }
     ensures narrow { IfOk result (λ loops. scope.width_of (length loops) (scope.independent_count kinematics.now) ≤ 20) }
 {

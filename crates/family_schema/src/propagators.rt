@@ -1,9 +1,10 @@
 //! The propagators of a family.
 
-ghost use Rattle.std.specs.Prelude.{◌≤◌, length};
+ghost use Rattle.std.specs.Prelude.{◌≡◌, ◌≤◌, length, All, IfOk};
 ghost use Rattle.input_schema.specs.Readings.{Answers};
-ghost use Rattle.kinematics_schema.specs.Independent.{HasCounts};
+ghost use Rattle.kinematics_schema.specs.Independent.{independents, HasCounts};
 ghost use Rattle.family_schema.specs.FamilyFile.{ReadsSquare, ReadsProduct, ReadsBilinear, ReadsPropagator, ReadsPropagators};
+ghost use Rattle.family_schema.specs.Sound.{HasMomenta};
 
 use crate::content::{Momenta, Propagator};
 use crate::scope::Scope;
@@ -18,7 +19,8 @@ fn read_square(alloc: Global, scope: &Scope, node: &Tree) -> Result<Propagator, 
     requires few { length scope.now.names ≤ 20 }
     requires few_invariants { length scope.now.invariants ≤ 32 }
     requires counts { HasCounts scope.now.conserved (length scope.now.names) }
-    ensures { Answers (ReadsSquare scope.now node.now) result }
+    ensures reading { Answers (ReadsSquare scope.now node.now) result }
+    ensures momenta { IfOk result (λ propagator. HasMomenta (length (independents scope.now.conserved scope.now.names)) propagator.momenta) }
 {
     let (first, second) = pair(File::Families, node)?;
     let momentum = read_independent(
@@ -41,7 +43,8 @@ fn read_product(alloc: Global, scope: &Scope, node: &Tree) -> Result<Propagator,
     requires few { length scope.now.names ≤ 20 }
     requires few_invariants { length scope.now.invariants ≤ 32 }
     requires counts { HasCounts scope.now.conserved (length scope.now.names) }
-    ensures { Answers (ReadsProduct scope.now node.now) result }
+    ensures reading { Answers (ReadsProduct scope.now node.now) result }
+    ensures momenta { IfOk result (λ propagator. HasMomenta (length (independents scope.now.conserved scope.now.names)) propagator.momenta) }
 {
     let names = scope.names.as_slice();
     let (product, second) = pair(File::Families, node)?;
@@ -61,7 +64,8 @@ fn read_bilinear(alloc: Global, scope: &Scope, node: &Tree) -> Result<Propagator
     requires few { length scope.now.names ≤ 20 }
     requires few_invariants { length scope.now.invariants ≤ 32 }
     requires counts { HasCounts scope.now.conserved (length scope.now.names) }
-    ensures { Answers (ReadsBilinear scope.now node.now) result }
+    ensures reading { Answers (ReadsBilinear scope.now node.now) result }
+    ensures momenta { IfOk result (λ propagator. HasMomenta (length (independents scope.now.conserved scope.now.names)) propagator.momenta) }
 {
     let keys = [Key::needed("bilinear")];
     let pairs = fields(File::Families, &keys, node)?;
@@ -74,7 +78,8 @@ fn read_propagator(alloc: Global, scope: &Scope, node: &Tree) -> Result<Propagat
     requires few { length scope.now.names ≤ 20 }
     requires few_invariants { length scope.now.invariants ≤ 32 }
     requires counts { HasCounts scope.now.conserved (length scope.now.names) }
-    ensures { Answers (ReadsPropagator scope.now node.now) result }
+    ensures reading { Answers (ReadsPropagator scope.now node.now) result }
+    ensures momenta { IfOk result (λ propagator. HasMomenta (length (independents scope.now.conserved scope.now.names)) propagator.momenta) }
 {
     match &node.value {
         Value::Map(_) => read_bilinear(alloc, scope, node),
@@ -92,7 +97,9 @@ pub fn read_propagators(
     requires few { length scope.now.names ≤ 20 }
     requires few_invariants { length scope.now.invariants ≤ 32 }
     requires counts { HasCounts scope.now.conserved (length scope.now.names) }
-    ensures { Answers (ReadsPropagators scope.now width node.now) result }
+    ensures reading { Answers (ReadsPropagators scope.now width node.now) result }
+    ensures size { IfOk result (λ propagators. length propagators ≡ width) }
+    ensures momenta { IfOk result (All (λ propagator. HasMomenta (length (independents scope.now.conserved scope.now.names)) propagator.momenta)) }
 {
     let nodes = list(File::Families, node)?;
     if nodes.len() != width as usize {

@@ -1,12 +1,13 @@
 //! Reads the file of integral families.
 
-ghost use Rattle.std.specs.Prelude.{◌≡◌, ◌≤◌, length, map, IfOk};
+ghost use Rattle.std.specs.Prelude.{◌≡◌, ◌≤◌, length, map, All, IfOk};
 ghost use Rattle.input_schema.specs.Names as names;
 ghost use Rattle.input_schema.specs.Readings.{Answers, Gives};
 ghost use Rattle.input_schema.specs.declared.faults.File.TheVariants as file;
 ghost use Rattle.kinematics_schema.specs.Independent.{independents, HasCounts};
 ghost use Rattle.family_schema.specs.Scope as scope;
 ghost use Rattle.family_schema.specs.FamilyFile.{ReadsHead, ReadsBody, ReadsRest, ReadsFamily, ReadsList, ReadsFamilies};
+ghost use Rattle.family_schema.specs.Sound.{HasParts, IsSound};
 
 use crate::content::Family;
 use crate::loops::{Head, read_loops, width_of};
@@ -53,6 +54,7 @@ fn read_head(
     requires counts { HasCounts kinematics.now.conserved (length kinematics.now.externals) }
     requires few { scope.independent_count kinematics.now ≤ 6 }
     ensures reading { Answers (ReadsHead kinematics.now found.now pairs.now line) result }
+    ensures some { IfOk result (λ head. 1 ≤ length head.loops) }
     ensures few { IfOk result (λ head. length head.loops ≤ 6) }
     ensures narrow { IfOk result (λ head. scope.width_of (length head.loops) (scope.independent_count kinematics.now) ≤ 20) }
 {
@@ -77,7 +79,10 @@ fn read_body(
     requires few_invariants { length scope.invariants ≤ 32 }
     requires counts { HasCounts scope.conserved (length scope.names) }
     requires loops { length scope.loops ≤ length (independents scope.conserved scope.names) }
-    ensures { Answers (ReadsBody pairs.now line scope width name) result }
+    ensures reading { Answers (ReadsBody pairs.now line scope width name) result }
+    ensures width { IfOk result (λ family. family.width ≡ width) }
+    ensures loops { IfOk result (λ family. family.loops ≡ scope.loops) }
+    ensures parts { IfOk result (HasParts (length (independents scope.conserved scope.names))) }
 {
     let top_sectors = read_top(alloc, pairs, width)?;
     let listed = needed(File::Families, line, pairs, "propagators")?;
@@ -113,9 +118,11 @@ fn read_rest(
     requires few { scope.independent_count kinematics.now ≤ 6 }
     requires few_externals { length kinematics.now.externals ≤ 14 }
     requires few_invariants { length kinematics.now.invariants ≤ 32 }
+    requires some_loops { 1 ≤ length head.loops }
     requires few_loops { length head.loops ≤ 6 }
     requires narrow { scope.width_of (length head.loops) (scope.independent_count kinematics.now) ≤ 20 }
-    ensures { Answers (ReadsRest kinematics.now pairs.now line head) result }
+    ensures reading { Answers (ReadsRest kinematics.now pairs.now line head) result }
+    ensures sound { IfOk result (IsSound kinematics.now) }
 {
     let Head { name, loops } = head;
     let width = width_of(loops.len(), kinematics.independent_count()) as u32;
@@ -134,7 +141,8 @@ fn read_family(
     requires few { scope.independent_count kinematics.now ≤ 6 }
     requires few_externals { length kinematics.now.externals ≤ 14 }
     requires few_invariants { length kinematics.now.invariants ≤ 32 }
-    ensures { Answers (ReadsFamily kinematics.now found.now node.now) result }
+    ensures reading { Answers (ReadsFamily kinematics.now found.now node.now) result }
+    ensures sound { IfOk result (IsSound kinematics.now) }
 {
     let keys = [
         Key::needed("name"),
@@ -159,7 +167,10 @@ fn read_list(
     requires few { scope.independent_count kinematics.now ≤ 6 }
     requires few_externals { length kinematics.now.externals ≤ 14 }
     requires few_invariants { length kinematics.now.invariants ≤ 32 }
-    ensures { Answers (ReadsList kinematics.now node.now) result }
+    ensures reading { Answers (ReadsList kinematics.now node.now) result }
+    ensures widths { IfOk result (λ families. All (λ family. family.width ≤ 20) families) }
+    ensures few { IfOk result (λ families. length families ≤ 16) }
+    ensures sound { IfOk result (All (IsSound kinematics.now)) }
 {
     let nodes = items(File::Families, node, 1, 16)?;
     let mut families = Items::new(alloc);
@@ -185,7 +196,10 @@ pub fn read(
     requires few { length (independents kinematics.now.conserved kinematics.now.externals) ≤ 6 }
     requires few_externals { length kinematics.now.externals ≤ 14 }
     requires few_invariants { length kinematics.now.invariants ≤ 32 }
-    ensures { Answers (ReadsFamilies kinematics.now tree.now) result }
+    ensures reading { Answers (ReadsFamilies kinematics.now tree.now) result }
+    ensures widths { IfOk result (λ families. All (λ family. family.width ≤ 20) families) }
+    ensures few { IfOk result (λ families. length families ≤ 16) }
+    ensures sound { IfOk result (All (IsSound kinematics.now)) }
 {
     let keys = [Key::needed("integralfamilies")];
     let pairs = fields(File::Families, &keys, tree)?;

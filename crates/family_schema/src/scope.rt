@@ -76,6 +76,7 @@ pub fn scope_of(
     ensures counts { IfOk result (λ scope. HasCounts scope.conserved (length scope.names)) }
     ensures few { IfOk result (λ scope. length scope.names ≤ 20) }
     ensures loops { IfOk result (λ scope. length scope.loops ≤ length (independents scope.conserved scope.names)) }
+    ensures momenta { IfOk result (λ scope. length (independents scope.conserved scope.names) ≡ length loops + spec.independent_count kinematics.now) }
     ensures err { IfErr result (λ e. e ≡ schema_error.OutOfMemory) }
 {
     let names = joined(alloc, loops.as_slice(), kinematics.externals.as_slice())?;

@@ -1,6 +1,6 @@
 //! The sectors of a family: one bit for each propagator.
 
-ghost use Rattle.std.specs.Prelude.{◌≡◌, ◌≤◌, [], ◌∷◌, codes};
+ghost use Rattle.std.specs.Prelude.{◌≡◌, ◌<◌, ◌≤◌, ◌^◌, [], ◌∷◌, codes, All, IfOk};
 ghost use Rattle.input_schema.specs.Readings.{Answers, IfGiven};
 ghost use Rattle.input_schema.specs.Maps.{value_of};
 ghost use Rattle.family_schema.specs.Scope as scope;
@@ -28,7 +28,8 @@ fn read_list(
     node: &Tree,
 ) -> Result<Items<u32>, SchemaError>
     requires { width ≤ 20 }
-    ensures { Answers (ReadsSectors least most width node.now) result }
+    ensures reading { Answers (ReadsSectors least most width node.now) result }
+    ensures below { IfOk result (All (λ sector. sector < 2 ^ width)) }
 {
     let nodes = items(File::Families, node, least, most)?;
     let greatest = all_of(width);
@@ -43,7 +44,8 @@ fn read_list(
 /// The top level sectors, or the one sector of all denominators where the map names none.
 pub fn read_top(alloc: Global, pairs: &[Pair], width: u32) -> Result<Items<u32>, SchemaError>
     requires { width ≤ 20 }
-    ensures { Answers (IfGiven (value_of pairs.now (codes "top_level_sectors")) (scope.all_of width ∷ []) (ReadsSectors 1 256 width)) result }
+    ensures reading { Answers (IfGiven (value_of pairs.now (codes "top_level_sectors")) (scope.all_of width ∷ []) (ReadsSectors 1 256 width)) result }
+    ensures below { IfOk result (All (λ sector. sector < 2 ^ width)) }
 {
     match optional(pairs, "top_level_sectors") {
         Some(node) => read_list(alloc, 1, 256, width, node),
@@ -58,7 +60,8 @@ pub fn read_top(alloc: Global, pairs: &[Pair], width: u32) -> Result<Items<u32>,
 /// The sectors that are zero, if the map names some.
 pub fn read_zero(alloc: Global, pairs: &[Pair], width: u32) -> Result<Items<u32>, SchemaError>
     requires { width ≤ 20 }
-    ensures { Answers (IfGiven (value_of pairs.now (codes "zero_sectors")) [] (ReadsSectors 0 1024 width)) result }
+    ensures reading { Answers (IfGiven (value_of pairs.now (codes "zero_sectors")) [] (ReadsSectors 0 1024 width)) result }
+    ensures below { IfOk result (All (λ sector. sector < 2 ^ width)) }
 {
     match optional(pairs, "zero_sectors") {
         Some(node) => read_list(alloc, 0, 1024, width, node),

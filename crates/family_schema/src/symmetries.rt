@@ -1,6 +1,6 @@
 //! The symmetries of a family: maps from its loop momenta to momenta.
 
-ghost use Rattle.std.specs.Prelude.{◌≡◌, ◌≤◌, ◌<◌, [], length, map, codes, IfOk, IfErr};
+ghost use Rattle.std.specs.Prelude.{◌≡◌, ◌≤◌, ◌<◌, [], length, map, codes, All, IfOk, IfErr};
 ghost use Rattle.input_schema.specs.Readings.{Answers, IfGiven};
 ghost use Rattle.input_schema.specs.Maps.{value_of};
 ghost use Rattle.input_schema.specs.declared.faults.SchemaError.TheVariants as schema_error;
@@ -8,6 +8,7 @@ ghost use Rattle.kinematics_schema.specs.Independent.{independents, HasCounts};
 ghost use Rattle.kinematics_schema.specs.KinematicsFile.{may};
 ghost use Rattle.family_schema.specs.Scope as spec;
 ghost use Rattle.family_schema.specs.FamilyFile.{ReadsImage, ReadsImages, ReadsSymmetry, ReadsSymmetries};
+ghost use Rattle.family_schema.specs.Sound.{HasImages};
 
 use crate::content::Symmetry;
 use crate::scope::Scope;
@@ -23,6 +24,7 @@ fn unit(alloc: Global, count: usize, place: usize) -> Result<Momentum, SchemaErr
     requires few { count ≤ 20 }
     requires within { place < count }
     ensures unit { IfOk result (λ momentum. momentum ≡ spec.unit count place) }
+    ensures counted { IfOk result (λ momentum. length momentum ≡ count) }
     ensures err { IfErr result (λ e. e ≡ schema_error.OutOfMemory) }
 {
     let mut coefficients = vec![in alloc; 0i16; count]?;
@@ -41,7 +43,8 @@ fn read_image(
     requires few { length scope.now.names ≤ 20 }
     requires counts { HasCounts scope.now.conserved (length scope.now.names) }
     requires within { place < length (independents scope.now.conserved scope.now.names) }
-    ensures { Answers (ReadsImage scope.now pairs.now place name.now) result }
+    ensures reading { Answers (ReadsImage scope.now pairs.now place name.now) result }
+    ensures counted { IfOk result (λ image. length image ≡ length (independents scope.now.conserved scope.now.names)) }
 {
     match optional(pairs, name.as_str()) {
         Some(node) => read_independent(
@@ -60,7 +63,9 @@ fn read_images(alloc: Global, scope: &Scope, pairs: &[Pair]) -> Result<Items<Mom
     requires few { length scope.now.names ≤ 20 }
     requires counts { HasCounts scope.now.conserved (length scope.now.names) }
     requires loops { length scope.now.loops ≤ length (independents scope.now.conserved scope.now.names) }
-    ensures { Answers (ReadsImages scope.now pairs.now) result }
+    ensures reading { Answers (ReadsImages scope.now pairs.now) result }
+    ensures one_for_each { IfOk result (λ images. length images ≡ length scope.now.loops) }
+    ensures counted { IfOk result (All (λ image. length image ≡ length (independents scope.now.conserved scope.now.names))) }
 {
     let names = scope.loops.as_slice();
     let mut images = Items::new(alloc);
@@ -88,7 +93,8 @@ fn read_symmetry(alloc: Global, scope: &Scope, node: &Tree) -> Result<Symmetry, 
     requires few { length scope.now.names ≤ 20 }
     requires counts { HasCounts scope.now.conserved (length scope.now.names) }
     requires loops { length scope.now.loops ≤ length (independents scope.now.conserved scope.now.names) }
-    ensures { Answers (ReadsSymmetry scope.now node.now) result }
+    ensures reading { Answers (ReadsSymmetry scope.now node.now) result }
+    ensures images { IfOk result (HasImages (length scope.now.loops) (length (independents scope.now.conserved scope.now.names))) }
 {
     let keys = keys_of(alloc, scope.loops.as_slice())?;
     let pairs = fields(File::Families, &keys, node)?;
@@ -104,7 +110,8 @@ fn read_list(alloc: Global, scope: &Scope, node: &Tree) -> Result<Items<Symmetry
     requires few { length scope.now.names ≤ 20 }
     requires counts { HasCounts scope.now.conserved (length scope.now.names) }
     requires loops { length scope.now.loops ≤ length (independents scope.now.conserved scope.now.names) }
-    ensures { Answers (ReadsSymmetries scope.now node.now) result }
+    ensures reading { Answers (ReadsSymmetries scope.now node.now) result }
+    ensures images { IfOk result (All (HasImages (length scope.now.loops) (length (independents scope.now.conserved scope.now.names)))) }
 {
     let nodes = items(File::Families, node, 0, 64)?;
     let mut symmetries = Items::new(alloc);
@@ -124,7 +131,8 @@ pub fn read_symmetries(
     requires few { length scope.now.names ≤ 20 }
     requires counts { HasCounts scope.now.conserved (length scope.now.names) }
     requires loops { length scope.now.loops ≤ length (independents scope.now.conserved scope.now.names) }
-    ensures { Answers (IfGiven (value_of pairs.now (codes "symmetries")) [] (ReadsSymmetries scope.now)) result }
+    ensures reading { Answers (IfGiven (value_of pairs.now (codes "symmetries")) [] (ReadsSymmetries scope.now)) result }
+    ensures images { IfOk result (All (HasImages (length scope.now.loops) (length (independents scope.now.conserved scope.now.names)))) }
 {
     match optional(pairs, "symmetries") {
         Some(node) => read_list(alloc, scope, node),

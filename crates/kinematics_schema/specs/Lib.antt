@@ -1,3 +1,4 @@
 pub mod Independent
 pub mod KinematicsFile
+pub mod Sound
 pub mod Laws

@@ -1,6 +1,6 @@
 //! The invariants.
 
-ghost use Rattle.std.specs.Prelude.{◌≡◌, ◌≤◌, [], None, length, codes, IfOk};
+ghost use Rattle.std.specs.Prelude.{◌≡◌, ◌<◌, ◌≤◌, [], None, length, codes, IfOk, IfSome};
 ghost use Rattle.input_schema.specs.Readings.{Answers, Gives, IfGiven};
 ghost use Rattle.input_schema.specs.Maps.{value_of};
 ghost use Rattle.kinematics_schema.specs.KinematicsFile as spec;
@@ -60,7 +60,8 @@ pub fn read_invariants(
 
 /// The place of an invariant that the file names.
 fn read_place(alloc: Global, invariants: &[Name], node: &Tree) -> Result<Option<usize>, SchemaError>
-    ensures { Answers (ReadsSymbol invariants.now node.now) result }
+    ensures reading { Answers (ReadsSymbol invariants.now node.now) result }
+    ensures within { IfOk result (λ symbol. IfSome symbol (λ place. place < length invariants.now)) }
 {
     let place = reference(alloc, File::Kinematics, node, invariants)?;
     Ok(Some(place))
@@ -72,7 +73,8 @@ pub fn read_symbol(
     pairs: &[Pair],
     invariants: &[Name],
 ) -> Result<Option<usize>, SchemaError>
-    ensures { Answers (IfGiven (value_of pairs.now (codes "symbol_to_replace_by_one")) None (ReadsSymbol invariants.now)) result }
+    ensures reading { Answers (IfGiven (value_of pairs.now (codes "symbol_to_replace_by_one")) None (ReadsSymbol invariants.now)) result }
+    ensures within { IfOk result (λ symbol. IfSome symbol (λ place. place < length invariants.now)) }
 {
     match optional(pairs, "symbol_to_replace_by_one") {
         Some(node) => read_place(alloc, invariants, node),

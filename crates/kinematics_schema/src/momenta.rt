@@ -3,7 +3,7 @@
 ghost use Rattle.std.specs.Prelude.{◌≡◌, ◌<◌, ◌^◌, length, IfOk};
 ghost use Rattle.input_schema.specs.Readings.{Answers, Gives};
 ghost use Rattle.kinematics_schema.specs.Independent as spec;
-ghost use Rattle.kinematics_schema.specs.Independent.{HasCounts, ReadsIndependent};
+ghost use Rattle.kinematics_schema.specs.Independent.{independents, HasCounts, ReadsIndependent};
 
 use crate::content::Conserved;
 use input_schema::{File, SchemaError, momentum, replaced};
@@ -26,7 +26,8 @@ pub fn independent(
     momentum: Momentum,
 ) -> Result<Momentum, SchemaError>
     requires { HasCounts conserved.now (length momentum) }
-    ensures { Gives (spec.independent file line conserved.now momentum) result }
+    ensures value { Gives (spec.independent file line conserved.now momentum) result }
+    ensures counted { IfOk result (λ other. length other ≡ length (independents conserved.now momentum)) }
 {
     match conserved {
         Some(other) => replaced(alloc, file, line, other.place, &other.image, &momentum),
@@ -49,7 +50,8 @@ pub fn read_independent(
 ) -> Result<Momentum, SchemaError>
     requires few { length names.now < 2 ^ 32 }
     requires counts { HasCounts conserved.now (length names.now) }
-    ensures { Answers (ReadsIndependent file names.now conserved.now node.now) result }
+    ensures reading { Answers (ReadsIndependent file names.now conserved.now node.now) result }
+    ensures counted { IfOk result (λ momentum. length momentum ≡ length (independents conserved.now names.now)) }
 {
     let momentum = momentum(alloc, file, node, names)?;
     independent(alloc, file, node.line, conserved, momentum)

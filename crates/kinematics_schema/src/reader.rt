@@ -1,9 +1,10 @@
 //! Reads the file of kinematics.
 
-ghost use Rattle.std.specs.Prelude.{◌≤◌, length, IfOk};
+ghost use Rattle.std.specs.Prelude.{◌<◌, ◌≤◌, length, All, IfOk, IfSome};
 ghost use Rattle.input_schema.specs.Readings.{Answers};
 ghost use Rattle.kinematics_schema.specs.Independent.{independents, HasCounts};
 ghost use Rattle.kinematics_schema.specs.KinematicsFile.{ReadsProducts, ReadsMap, ReadsKinematics};
+ghost use Rattle.kinematics_schema.specs.Sound.{HasMomenta, IsSound};
 
 use crate::content::Kinematics;
 use crate::externals::{Externals, read_externals};
@@ -25,6 +26,8 @@ fn read_products(
     ensures counts { IfOk result (λ kinematics. HasCounts kinematics.conserved (length kinematics.externals)) }
     ensures few { IfOk result (λ kinematics. length kinematics.externals ≤ 14) }
     ensures few_invariants { IfOk result (λ kinematics. length kinematics.invariants ≤ 32) }
+    ensures rules { IfOk result (λ kinematics. All (HasMomenta (length (independents kinematics.conserved kinematics.externals))) kinematics.rules) }
+    ensures symbol { IfOk result (λ kinematics. IfSome kinematics.symbol (λ place. place < length kinematics.invariants)) }
 {
     let invariants = read_invariants(alloc, pairs, externals.names.as_slice())?;
     let rules = read_rules(alloc, pairs, &externals, invariants.as_slice())?;
@@ -46,6 +49,8 @@ fn read_map(alloc: Global, node: &Tree) -> Result<Kinematics, SchemaError>
     ensures few { IfOk result (λ kinematics. length (independents kinematics.conserved kinematics.externals) ≤ 6) }
     ensures few_externals { IfOk result (λ kinematics. length kinematics.externals ≤ 14) }
     ensures few_invariants { IfOk result (λ kinematics. length kinematics.invariants ≤ 32) }
+    ensures symbol { IfOk result (λ kinematics. IfSome kinematics.symbol (λ place. place < length kinematics.invariants)) }
+    ensures sound { IfOk result IsSound }
 {
     let keys = [
         Key::needed("incoming_momenta"),
@@ -78,6 +83,8 @@ pub fn read(alloc: Global, tree: &Tree) -> Result<Kinematics, SchemaError>
     ensures few { IfOk result (λ kinematics. length (independents kinematics.conserved kinematics.externals) ≤ 6) }
     ensures few_externals { IfOk result (λ kinematics. length kinematics.externals ≤ 14) }
     ensures few_invariants { IfOk result (λ kinematics. length kinematics.invariants ≤ 32) }
+    ensures symbol { IfOk result (λ kinematics. IfSome kinematics.symbol (λ place. place < length kinematics.invariants)) }
+    ensures sound { IfOk result IsSound }
 {
     let keys = [Key::needed("kinematics")];
     let pairs = fields(File::Kinematics, &keys, tree)?;

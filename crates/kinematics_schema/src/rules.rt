@@ -1,10 +1,11 @@
 //! The rules of scalar products.
 
-ghost use Rattle.std.specs.Prelude.{◌<◌, ◌≤◌, ◌^◌, [], length, codes};
+ghost use Rattle.std.specs.Prelude.{◌<◌, ◌≤◌, ◌^◌, [], length, codes, All, IfOk};
 ghost use Rattle.input_schema.specs.Readings.{Answers, IfGiven};
 ghost use Rattle.input_schema.specs.Maps.{value_of};
-ghost use Rattle.kinematics_schema.specs.Independent.{HasCounts};
+ghost use Rattle.kinematics_schema.specs.Independent.{independents, HasCounts};
 ghost use Rattle.kinematics_schema.specs.KinematicsFile.{ReadsRule, ReadsRules};
+ghost use Rattle.kinematics_schema.specs.Sound.{HasMomenta};
 
 use crate::content::Rule;
 use crate::externals::Externals;
@@ -25,7 +26,8 @@ fn read_rule(
     requires few { length externals.now.names ≤ 14 }
     requires few_invariants { length invariants.now ≤ 32 }
     requires counts { HasCounts externals.now.conserved (length externals.now.names) }
-    ensures { Answers (ReadsRule externals.now.names externals.now.conserved invariants.now node.now) result }
+    ensures reading { Answers (ReadsRule externals.now.names externals.now.conserved invariants.now node.now) result }
+    ensures momenta { IfOk result (HasMomenta (length (independents externals.now.conserved externals.now.names))) }
 {
     let names = externals.names.as_slice();
     let (product, second) = pair(File::Kinematics, node)?;
@@ -51,7 +53,8 @@ fn read_list(
     requires few { length externals.now.names ≤ 14 }
     requires few_invariants { length invariants.now ≤ 32 }
     requires counts { HasCounts externals.now.conserved (length externals.now.names) }
-    ensures { Answers (ReadsRules externals.now.names externals.now.conserved invariants.now node.now) result }
+    ensures reading { Answers (ReadsRules externals.now.names externals.now.conserved invariants.now node.now) result }
+    ensures momenta { IfOk result (All (HasMomenta (length (independents externals.now.conserved externals.now.names)))) }
 {
     let nodes = items(File::Kinematics, node, 0, 64)?;
     let mut rules = Items::new(alloc);
@@ -72,7 +75,8 @@ pub fn read_rules(
     requires few { length externals.now.names ≤ 14 }
     requires few_invariants { length invariants.now ≤ 32 }
     requires counts { HasCounts externals.now.conserved (length externals.now.names) }
-    ensures { Answers (IfGiven (value_of pairs.now (codes "scalarproduct_rules")) [] (ReadsRules externals.now.names externals.now.conserved invariants.now)) result }
+    ensures reading { Answers (IfGiven (value_of pairs.now (codes "scalarproduct_rules")) [] (ReadsRules externals.now.names externals.now.conserved invariants.now)) result }
+    ensures momenta { IfOk result (All (HasMomenta (length (independents externals.now.conserved externals.now.names)))) }
 {
     match optional(pairs, "scalarproduct_rules") {
         Some(node) => read_list(alloc, externals, invariants, node),

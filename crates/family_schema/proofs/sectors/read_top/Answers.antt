@@ -5,6 +5,6 @@ use Rattle.family_schema.specs.Scope.{all_of}
 use Rattle.family_schema.specs.FamilyFile.{ReadsSectors}
 use Rattle.family_schema.proofs.sectors.read_top.Goals as goal
 
-pub returns-in-Some : goal.returns-in-Some
-returns-in-Some c =
-    given (value_of c.args.pairs.now (codes "top_level_sectors")) (all_of c.args.width ∷ []) (ReadsSectors 1 256 c.args.width) c.in-Some.node.now c.read_list.result c.in-Some.ensures c.read_list.ensures
+pub returns-in-Some-clause-reading : goal.returns-in-Some-clause-reading
+returns-in-Some-clause-reading c =
+    given (value_of c.args.pairs.now (codes "top_level_sectors")) (all_of c.args.width ∷ []) (ReadsSectors 1 256 c.args.width) c.in-Some.node.now c.read_list.result c.in-Some.ensures c.read_list.ensures.reading
