@@ -1,4 +1,4 @@
--- The jobs file, and the numeric point with the words that override it. The project's own; the keys follow
+-- The jobs file. The project's own; the keys follow
 -- Kira, arXiv:1705.05610.
 use Rattle.std.specs.Prelude.{ℕ, ◌+◌, Bool, true, false, not, ◌&&◌, if◌then◌else◌, ◌==◌, List, [], ◌∷◌, ◌++◌, length, take, drop, map, codes, slice_set, is_some, Option, Some, None, Ok}
 use Rattle.std.specs.List.{list_all, list_any, prefix_len}
