@@ -16,6 +16,7 @@ mod tree;
 
 pub use fault::{YamlError, YamlFault, YamlKind};
 pub use laws::{one_grammar, one_reading, word_is_scalar};
+pub use line::{bare, first_line, skip, trim_end};
 pub use reader::read;
 pub use text::Text;
 pub use tree::{Pair, Tree, Value};

@@ -106,7 +106,7 @@ impl<'a> Line<'a> {
 }
 
 /// The first line of a text, without a CR right before its LF, and what stands behind it.
-fn first_line(bytes: &[u8]) -> (&[u8], &[u8])
+pub fn first_line(bytes: &[u8]) -> (&[u8], &[u8])
     requires { 0 < length bytes.now }
     ensures cut { spec.cut bytes.now ≡ result.0.now ∷ spec.cut result.1.now }
     ensures short { length result.0.now + length result.1.now ≤ length bytes.now }
@@ -296,7 +296,7 @@ fn line_at(number: u32, bare: &[u8]) -> Line<'_>
 }
 
 /// A line without its comment and its trailing spaces.
-fn bare(raw: &[u8]) -> &[u8]
+pub fn bare(raw: &[u8]) -> &[u8]
     ensures value { result.now ≡ spec.bare raw.now }
     ensures within { length result.now ≤ length raw.now }
 {

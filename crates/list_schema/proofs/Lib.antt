@@ -1,0 +1,4 @@
+pub mod Cutting
+pub mod Steps
+pub mod LineSteps
+pub mod PieceLaws

@@ -1,0 +1,22 @@
+-- Laws of the definitions of list files. The project's own.
+use Rattle.std.specs.Prelude.{◌≡◌, ◌==◌, Bool, true, not, List, [], ◌∷◌, ◌++◌}
+use Rattle.std.specs.List.{list_all, list_any}
+use Rattle.yaml_text.specs.Lines.{Bytes}
+use Rattle.list_schema.specs.Indices.{pieces}
+
+-- pieces with a comma behind each but the last
+abbrev pub joined : List Bytes → Bytes
+joined [] = []
+joined (p ∷ []) = p
+joined (p ∷ q ∷ ps) = p ++ 44 ∷ joined (q ∷ ps)
+
+abbrev pub has_comma : Bytes → Bool
+has_comma = list_any (λ b. b == 44)
+
+-- the pieces of a text, joined by commas, are the text
+abbrev pub PiecesMakeTheText : Type 0
+PiecesMakeTheText = (text : Bytes) → joined (pieces text) ≡ text
+
+-- and none of them has a comma
+abbrev pub PiecesHaveNoComma : Type 0
+PiecesHaveNoComma = (text : Bytes) → list_all (λ piece. not (has_comma piece)) (pieces text) ≡ true

@@ -1,0 +1,4 @@
+pub mod Readings
+pub mod Indices
+pub mod Lists
+pub mod Laws

@@ -1,0 +1,12 @@
+//! Reads a list file, the text that names integrals of one family to be selected.
+#![tactic(auto)]
+
+mod indices;
+mod laws;
+mod lists;
+mod names;
+#[cfg(test)]
+mod tests;
+
+pub use laws::pieces_are_cut;
+pub use lists::read_list;
