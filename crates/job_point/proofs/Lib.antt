@@ -1,0 +1,4 @@
+mod StepLemmas
+mod ListLemmas
+mod RuleLemmas
+mod SingleLemmas

@@ -1,0 +1,11 @@
+-- Laws of what a job says at its numeric point. The project's own.
+use Rattle.std.specs.Prelude.{◌<◌, ℕ, List}
+use Rattle.kinematics_schema.specs.declared.content.Kinematics.{Kinematics}
+use Rattle.family_schema.specs.declared.content.Family.{Family}
+use Rattle.job_schema.specs.declared.points.Setting.{Setting}
+use Rattle.job_point.specs.Steps.{IsSingle}
+use Rattle.job_point.specs.Point.{IsAtPoint}
+
+-- there is one value at most
+abbrev pub PointsAreSingle : Type 0
+PointsAreSingle = (p : ℕ) (kinematics : Kinematics) (families : List Family) (settings : List Setting) → 1 < p → IsSingle (IsAtPoint p kinematics families settings)

@@ -1,0 +1,18 @@
+//! What a job says at its numeric point: the values of the invariants, the point of the rules, and the
+//! denominators of each family.
+#![tactic(auto)]
+
+mod bases;
+mod faults;
+mod laws;
+mod points;
+mod ratios;
+mod rules;
+mod values;
+
+pub use faults::{PlanError, Singular};
+pub use laws::points_are_single;
+pub use points::{AtPoint, at_point};
+
+#[cfg(test)]
+mod tests;

@@ -1,0 +1,320 @@
+//! Small jobs at a point, worked out by hand.
+
+ghost use Rattle.std.specs.Prelude.{◌≡◌};
+ghost use Rattle.kinematics_schema.specs.Sound.{IsSound};
+ghost use Rattle.job_point.specs.Point as spec;
+
+use crate::{AtPoint, PlanError, Singular, at_point};
+use field_word::Modulus;
+use input_schema::File;
+use job_schema::{Divisor, NumericPoint, Ratio, Setting};
+use kinematics_schema::Kinematics;
+use propagators::Basis;
+use sqlite_items::Items;
+use std::alloc::Global;
+use std::test::Fail;
+use yaml_text::Tree;
+
+const TADPOLE: &'static str =
+    "kinematics :\n  incoming_momenta: []\n  outgoing_momenta: []\n  kinematic_invariants:\n    - [m2, 2]\n  scalarproduct_rules: []\n";
+
+const TADPOLE_FAMILY: &'static str =
+    "integralfamilies:\n  - name: \"tad\"\n    loop_momenta: [k1]\n    top_level_sectors: [1]\n    propagators:\n      - [\"k1\", \"m2\"]\n";
+
+const BUBBLE: &'static str =
+    "kinematics :\n  incoming_momenta: [p1]\n  kinematic_invariants:\n    - [s, 2]\n  scalarproduct_rules:\n    - [[p1,p1], s]\n";
+
+const BUBBLE_FAMILY: &'static str =
+    "integralfamilies:\n  - name: bub\n    loop_momenta: [k1]\n    propagators:\n      - [k1, 0]\n      - [k1+p1, 0]\n";
+
+fn tree_of(alloc: Global, text: &str) -> Result<Tree, Fail> {
+    if text.len() > 1000 {
+        return Err(Fail::from("too long"));
+    }
+    match yaml_text::read(alloc, text.as_bytes()) {
+        Ok(tree) => Ok(tree),
+        Err(_) => Err(Fail::from("no tree")),
+    }
+}
+
+// How many values the numeric point gives.
+fn parameter_count(kinematics: &Kinematics) -> usize
+    requires { IsSound kinematics.now }
+    ensures { result ≡ spec.parameter_count kinematics.now }
+{
+    match kinematics.symbol {
+        Some(_) => kinematics.invariants.len(),
+        None => 1 + kinematics.invariants.len(),
+    }
+}
+
+// A whole number, as the file of jobs gives it.
+fn whole(number: u128) -> Setting {
+    Setting {
+        file: File::Jobs,
+        line: 11,
+        ratio: Ratio {
+            is_negative: false,
+            numerator: number,
+            divisor: None,
+        },
+    }
+}
+
+// A number over another, as the word at this place gives it: a number of one digit.
+fn over(place: u32, numerator: u128, number: u128) -> Setting {
+    Setting {
+        file: File::Words,
+        line: place,
+        ratio: Ratio {
+            is_negative: false,
+            numerator,
+            divisor: Some(Divisor { at: 1, number }),
+        },
+    }
+}
+
+// What the files say at the point with these values.
+fn outcome_of(
+    alloc: Global,
+    kinematics: &str,
+    families: &str,
+    prime: u64,
+    settings: &[Setting],
+) -> Result<Result<AtPoint, PlanError>, Fail> {
+    let kinematics = kinematics_schema::read(alloc, &tree_of(alloc, kinematics)?)?;
+    let families = family_schema::read(alloc, &kinematics, &tree_of(alloc, families)?)?;
+    if settings.len() != parameter_count(&kinematics) {
+        return Err(Fail::from("not as many values as parameters"));
+    }
+    let point = NumericPoint {
+        prime: Modulus::new(prime)?,
+        settings: Items::from_slice(alloc, settings)?,
+    };
+    Ok(at_point(alloc, &kinematics, families.as_slice(), &point))
+}
+
+fn derivative(basis: &Basis, loop_number: u32, momentum: u32, denominator: u32) -> &[u64] {
+    let width = basis.width();
+    let loops = basis.loops();
+    let momenta = loops + basis.externals();
+    let has_loop = 1 <= loop_number && loop_number <= loops;
+    let has_momentum = 1 <= momentum && momentum <= momenta;
+    let has_denominator = 1 <= denominator && denominator <= width;
+    if has_loop && has_momentum && has_denominator {
+        basis.derivative(loop_number, momentum, denominator)
+    } else {
+        &[]
+    }
+}
+
+// D = k*k - 3, and the derivative is 2*k*k = 6 + 2*D.
+#[test]
+fn values_a_tadpole(rt: HostRuntime) -> Result<(), Fail> {
+    let settings = [whole(7), whole(3)];
+    let at = outcome_of(rt.alloc(), TADPOLE, TADPOLE_FAMILY, 101, &settings)??;
+    assert_eq!(rt; at.modulus.value(), 101);
+    assert_eq!(rt; at.dimension, 7);
+    let bases = at.bases.as_slice();
+    assert_eq!(rt; bases.len(), 1);
+    assert_eq!(rt; bases[0].loops(), 1);
+    assert_eq!(rt; bases[0].width(), 1);
+    assert_eq!(rt; bases[0].externals(), 0);
+    assert_eq!(rt; derivative(&bases[0], 1, 1, 1), [6, 2].as_slice());
+    Ok(())
+}
+
+// With D1 = k*k and D2 = k*k + 2*k*p + 5: times k they give 2*D1 and D1 + D2 - 5, and times p they give
+// D2 - D1 - 5 and D2 - D1 + 5.
+#[test]
+fn values_a_bubble(rt: HostRuntime) -> Result<(), Fail> {
+    let settings = [whole(7), whole(5)];
+    let at = outcome_of(rt.alloc(), BUBBLE, BUBBLE_FAMILY, 101, &settings)??;
+    let bases = at.bases.as_slice();
+    assert_eq!(rt; bases.len(), 1);
+    assert_eq!(rt; bases[0].externals(), 1);
+    assert_eq!(rt; derivative(&bases[0], 1, 1, 1), [0, 2, 0].as_slice());
+    assert_eq!(rt; derivative(&bases[0], 1, 1, 2), [96, 1, 1].as_slice());
+    assert_eq!(rt; derivative(&bases[0], 1, 2, 1), [96, 100, 1].as_slice());
+    assert_eq!(rt; derivative(&bases[0], 1, 2, 2), [5, 100, 1].as_slice());
+    Ok(())
+}
+
+// 2*51 is 1 modulo 101, so 7/2 is 54 and -7/2 is 47.
+#[test]
+fn values_a_negative_ratio(rt: HostRuntime) -> Result<(), Fail> {
+    let half = Setting {
+        file: File::Jobs,
+        line: 11,
+        ratio: Ratio {
+            is_negative: true,
+            numerator: 7,
+            divisor: Some(Divisor { at: 2, number: 2 }),
+        },
+    };
+    let settings = [half, over(2, 7, 2)];
+    let at = outcome_of(rt.alloc(), TADPOLE, TADPOLE_FAMILY, 101, &settings)??;
+    assert_eq!(rt; at.dimension, 47);
+    let bases = at.bases.as_slice();
+    assert_eq!(rt; bases.len(), 1);
+    assert_eq!(rt; derivative(&bases[0], 1, 1, 1), [7, 2].as_slice());
+    Ok(())
+}
+
+const SYMBOL: &'static str =
+    "kinematics:\n  incoming_momenta: []\n  kinematic_invariants: [[t, 2], [s, 2], [u, 2]]\n  symbol_to_replace_by_one: s\n";
+
+const SYMBOL_FAMILY: &'static str =
+    "integralfamilies:\n  - name: tad\n    loop_momenta: [k1]\n    propagators: [[k1, t + 10*s + 2*u]]\n";
+
+// With t = 3 and u = 20 the mass is 3 + 10 + 40.
+#[test]
+fn replaces_the_symbol_by_one(rt: HostRuntime) -> Result<(), Fail> {
+    let settings = [whole(7), whole(3), whole(20)];
+    let at = outcome_of(rt.alloc(), SYMBOL, SYMBOL_FAMILY, 1009, &settings)??;
+    let bases = at.bases.as_slice();
+    assert_eq!(rt; bases.len(), 1);
+    assert_eq!(rt; derivative(&bases[0], 1, 1, 1), [106, 2].as_slice());
+    Ok(())
+}
+
+// The fault with all its numbers; a vector has its first two entries and its length.
+#[derive(Clone, Copy, Debug, PartialEq, Eq, Drop)]
+enum Cause {
+    None,
+    Divisor(File, u32, u32),
+    Open(u64, usize),
+    Dependent(u32, u64, u64),
+    Clash,
+    Composite(u64),
+    Other,
+}
+
+fn entry(vector: &[u64], place: usize) -> u64 {
+    if place < vector.len() {
+        vector[place]
+    } else {
+        0
+    }
+}
+
+fn cause_of(outcome: &Result<AtPoint, PlanError>) -> Cause {
+    match outcome {
+        Ok(_) => Cause::None,
+        Err(PlanError::Singular(singular)) => match singular {
+            Singular::ZeroDivisor { file, line, at } => Cause::Divisor(*file, *line, *at),
+            Singular::RulesOpen { vector } => {
+                Cause::Open(entry(vector.entries(), 0), vector.entries().len())
+            }
+            Singular::NotBasis { family, vector } => Cause::Dependent(
+                *family,
+                entry(vector.entries(), 0),
+                entry(vector.entries(), 1),
+            ),
+        },
+        Err(PlanError::RulesClash { .. }) => Cause::Clash,
+        Err(PlanError::Composite(composite)) => Cause::Composite(composite.divisor),
+        Err(_) => Cause::Other,
+    }
+}
+
+// The invariant goes before the dimension, and 101 is 0.
+#[test]
+fn refuses_values_of_the_point(rt: HostRuntime) -> Result<(), Fail> {
+    for (settings, cause) in [
+        (
+            [over(3, 1, 0), over(2, 5, 101)],
+            Cause::Divisor(File::Words, 2, 1),
+        ),
+        ([over(3, 1, 0), whole(5)], Cause::Divisor(File::Words, 3, 1)),
+    ] {
+        let outcome = outcome_of(rt.alloc(), TADPOLE, TADPOLE_FAMILY, 101, &settings)?;
+        assert_eq!(rt; cause_of(&outcome), cause);
+    }
+    Ok(())
+}
+
+const FAULTY: &'static str =
+    "kinematics:\n  incoming_momenta: [p1]\n  kinematic_invariants:\n    - [s, 2]\n  scalarproduct_rules:\n    - [[p1,p1], 1/(s-5)]\n    - [[p1,p1], 1]\n";
+
+const FAULTY_FAMILIES: &'static str =
+    "integralfamilies:\n  - name: bub\n    loop_momenta: [k1]\n    propagators:\n      - [k1, 0]\n      - [k1+p1, \"2 + 1/(s-6)\"]\n  - name: two\n    loop_momenta: [k1]\n    propagators:\n      - [k1, 1]\n      - [k1, 2]\n";
+
+const NO_RULES: &'static str =
+    "kinematics:\n  incoming_momenta: [p1]\n  kinematic_invariants:\n    - [s, 2]\n  scalarproduct_rules: []\n";
+
+// All of the later steps have a fault too: at s = 1/0 the value, at 5 the first rule, at 7 the rules, which
+// agree at 6 alone; then the mass at 6, and at 8 the second family.
+#[test]
+fn refuses_the_first_step(rt: HostRuntime) -> Result<(), Fail> {
+    for (kinematics, value, cause) in [
+        (FAULTY, over(2, 1, 0), Cause::Divisor(File::Words, 2, 1)),
+        (FAULTY, whole(5), Cause::Divisor(File::Kinematics, 6, 1)),
+        (FAULTY, whole(7), Cause::Clash),
+        (NO_RULES, whole(6), Cause::Open(1, 1)),
+        (FAULTY, whole(6), Cause::Divisor(File::Families, 6, 5)),
+        (BUBBLE, whole(8), Cause::Dependent(1, 1, 100)),
+    ] {
+        let outcome = outcome_of(
+            rt.alloc(),
+            kinematics,
+            FAULTY_FAMILIES,
+            101,
+            &[whole(7), value],
+        )?;
+        assert_eq!(rt; cause_of(&outcome), cause);
+    }
+    Ok(())
+}
+
+// Under multipliers that sum to 0 the values 7 and 0 of one product sum to the residue.
+#[test]
+fn tells_how_rules_clash(rt: HostRuntime) -> Result<(), Fail> {
+    let clash =
+        "kinematics: {incoming_momenta: [p1], scalarproduct_rules: [[[p1,p1], 7], [[p1,p1], 0]]}";
+    let outcome = outcome_of(rt.alloc(), clash, BUBBLE_FAMILY, 101, &[whole(7)])?;
+    match &outcome {
+        Err(
+            PlanError::RulesClash {
+                multipliers,
+                residue,
+            },
+        ) => {
+            let (first, second) = (
+                entry(multipliers.entries(), 0),
+                entry(multipliers.entries(), 1),
+            );
+            assert_eq!(rt; multipliers.entries().len(), 2);
+            assert_ne!(rt; *residue, 0);
+            assert_eq!(rt; (first as u128 + second as u128) % 101, 0);
+            assert_eq!(rt; 7 * first as u128 % 101, *residue as u128);
+        }
+        _ => assert!(rt; false),
+    }
+    Ok(())
+}
+
+const THREE_RULE: &'static str =
+    "kinematics:\n  incoming_momenta: [p1]\n  kinematic_invariants:\n    - [s, 2]\n  scalarproduct_rules:\n    - [[3*p1,p1], s]\n";
+
+const THREE_VALUE: &'static str =
+    "kinematics:\n  incoming_momenta: [p1]\n  kinematic_invariants:\n    - [s, 2]\n  scalarproduct_rules:\n    - [[p1,p1], 1/s]\n";
+
+const THREE_FAMILY: &'static str =
+    "integralfamilies:\n  - name: bub\n    loop_momenta: [k1]\n    propagators:\n      - [3*k1, 0]\n      - [k1+p1, 0]\n";
+
+// Modulo 15 neither 3 nor 9 has an inverse, and 5 is their common divisor in the second.
+#[test]
+fn names_a_divisor_of_the_modulus(rt: HostRuntime) -> Result<(), Fail> {
+    for (kinematics, families, value, divisor) in [
+        (BUBBLE, BUBBLE_FAMILY, over(2, 1, 3), 3),
+        (BUBBLE, BUBBLE_FAMILY, over(2, 1, 10), 5),
+        (THREE_VALUE, BUBBLE_FAMILY, whole(6), 3),
+        (THREE_RULE, BUBBLE_FAMILY, whole(6), 3),
+        (BUBBLE, THREE_FAMILY, whole(6), 3),
+    ] {
+        let outcome = outcome_of(rt.alloc(), kinematics, families, 15, &[whole(7), value])?;
+        assert_eq!(rt; cause_of(&outcome), Cause::Composite(divisor));
+    }
+    Ok(())
+}
