@@ -1,0 +1,16 @@
+use Rattle.std.proofs.Common.{◌≡◌, ◌∙◌, length, sym}
+use Rattle.std.proofs.lemmas.Slice.Zip.{AllZip-long}
+use Rattle.job_plan.specs.Plans.{AreZerosOf}
+use Rattle.job_plan.proofs.PlanLemmas.{named_all}
+use Rattle.job_plan.proofs.planner.plan_of.Goals as goal
+
+pub invariant_of-result : goal.invariant_of-result
+invariant_of-result c =
+    let names : length c.from_vec-names.result ≡ length c.args.families.now = named_all c.args.families.now c.from_vec-names.result (c.from_vec-names.ensures ∙ c.in_ok-names_of.ensures) in
+    record {
+      few = rw names c.requires.few;
+      zeros_of_all = AllZip-long AreZerosOf c.args.families.now c.in_ok-zeros.zeros c.in_ok-zeros.ensures ∙ sym names;
+      bases_of_all = c.requires.bases ∙ sym names;
+      dimension_below = c.requires.dimension;
+      moduli = c.requires.moduli;
+    }

@@ -1,0 +1,213 @@
+//! Plans of small jobs, and why there is none, worked out by hand.
+
+use crate::tests::{FAMILIES, JOB, KINEMATICS, ONE_MOMENTUM, TWO_LISTS, outline_of};
+use crate::{File, Plan, PlanError, Singular, plan};
+use integral_index::Order;
+use propagators::Basis;
+use std::alloc::Global;
+use std::test::Fail;
+
+/// The families of `TWO_LISTS` with sectors that are zero.
+const TWO_FAMILIES: &'static str =
+    "integralfamilies:\n  - {name: bub, loop_momenta: [k], zero_sectors: [2, 1, 2], propagators: [[k, m2], [k+p, 0]]}\n  - {name: sun, loop_momenta: [k, l], top_level_sectors: [7], zero_sectors: [8, 3], propagators: [[k, m2], [l, 0], [k+l+p, 0], [k+p, 0], [l+p, 0]]}\n";
+
+const CLASH: &'static str =
+    "kinematics: {incoming_momenta: [p], scalarproduct_rules: [[[p,p], 7], [[p,p], 0]]}";
+
+const OPEN: &'static str = "kinematics: {incoming_momenta: [p]}";
+
+const CLOSED: &'static str =
+    "kinematics: {incoming_momenta: [p], scalarproduct_rules: [[[p,p], 5]]}";
+
+/// The denominators of the second family are dependent.
+const DEPENDENT: &'static str =
+    "integralfamilies:\n  - {name: bub, loop_momenta: [k], propagators: [[k, 0], [k+p, 0]]}\n  - {name: two, loop_momenta: [k], propagators: [[k, 1], [k, 2]]}\n";
+
+const BUBBLE_JOB: &'static str =
+    "jobs:\n  - reduce_sectors:\n      reduce:\n        - {topologies: [bub], sectors: [3], r: 2, s: 0}\n      select_integrals: {}\n      numeric_point: {prime: 101, d: 7}\n";
+
+fn plan_of(
+    alloc: Global,
+    kinematics: &str,
+    families: &str,
+    jobs: &str,
+    words: &[&str],
+) -> Result<Result<Plan, PlanError>, Fail> {
+    let outline = outline_of(alloc, kinematics, families, jobs, words)??;
+    Ok(plan(alloc, &outline))
+}
+
+fn has_family(plan: &Plan, number: u32, name: &str, zeros: &[u32]) -> bool {
+    number < plan.family_count()
+        && plan.family_name(number) == name
+        && plan.zeros(number).listed() == zeros
+}
+
+fn has_count(plan: &Plan, count: usize) -> bool {
+    plan.names().len() == count && plan.zero_lists().len() == count
+}
+
+fn derivative(basis: &Basis, loop_number: u32, momentum: u32, denominator: u32) -> &[u64] {
+    let width = basis.width();
+    let loops = basis.loops();
+    let momenta = loops + basis.externals();
+    let has_loop = 1 <= loop_number && loop_number <= loops;
+    let has_momentum = 1 <= momentum && momentum <= momenta;
+    let has_denominator = 1 <= denominator && denominator <= width;
+    if has_loop && has_momentum && has_denominator {
+        basis.derivative(loop_number, momentum, denominator)
+    } else {
+        &[]
+    }
+}
+
+// The derivative by the loop momentum with this number of the denominator with the same number, times this
+// loop momentum.
+fn own_derivative(plan: &Plan, family: u32, number: u32) -> &[u64] {
+    if family < plan.family_count() {
+        derivative(plan.basis(family), number, number, number)
+    } else {
+        &[]
+    }
+}
+
+// D = k*k - 3, and the derivative is 2*k*k = 6 + 2*D.
+#[test]
+fn plans_the_tadpole(rt: HostRuntime) -> Result<(), Fail> {
+    let plan = plan_of(rt.alloc(), KINEMATICS, FAMILIES, JOB, &[])??;
+    assert_eq!(rt; (plan.modulus().value(), plan.dimension()), (101, 7));
+    assert!(rt; plan.order() == Order::Standard && has_count(&plan, 1));
+    assert!(rt; has_family(&plan, 0, "tad", &[]));
+    assert_eq!(rt; own_derivative(&plan, 0, 1), [6, 2].as_slice());
+    Ok(())
+}
+
+fn two_families(alloc: Global) -> Result<Plan, Fail> {
+    Ok(plan_of(alloc, ONE_MOMENTUM, TWO_FAMILIES, TWO_LISTS, &["d=-3"])??)
+}
+
+// The dimension is -3.
+#[test]
+fn plans_two_families(rt: HostRuntime) -> Result<(), Fail> {
+    let plan = two_families(rt.alloc())?;
+    assert_eq!(rt; plan.dimension(), 98);
+    assert!(rt; has_count(&plan, 2));
+    assert!(rt; has_family(&plan, 0, "bub", &[1, 2]));
+    assert!(rt; has_family(&plan, 1, "sun", &[3, 8]));
+    Ok(())
+}
+
+// The value of m2 is 1/2, which is 51, so the derivative of D = k*k - 51 is 2*D + 102. That of l*l is twice
+// itself.
+#[test]
+fn plans_two_bases(rt: HostRuntime) -> Result<(), Fail> {
+    let plan = two_families(rt.alloc())?;
+    assert_eq!(rt; own_derivative(&plan, 0, 1), [1, 2, 0].as_slice());
+    assert_eq!(rt; own_derivative(&plan, 1, 2), [0, 0, 2, 0, 0, 0].as_slice());
+    Ok(())
+}
+
+// The fault with its numbers; a vector has its first entry and its length.
+#[derive(Clone, Copy, Debug, PartialEq, Eq, Drop)]
+enum Cause {
+    None,
+    Divisor(File, u32, u32),
+    Open(u64, usize),
+    Dependent(u32, u64, usize),
+    Clash(usize),
+    Composite(u64),
+    Other,
+}
+
+fn first(vector: &[u64]) -> u64 {
+    match vector {
+        [entry, ..] => *entry,
+        [] => 0,
+    }
+}
+
+fn cause_of(outcome: &Result<Plan, PlanError>) -> Cause {
+    match outcome {
+        Ok(_) => Cause::None,
+        Err(PlanError::Singular(singular)) => match singular {
+            Singular::ZeroDivisor { file, line, at } => Cause::Divisor(*file, *line, *at),
+            Singular::RulesOpen { vector } => {
+                Cause::Open(first(vector.entries()), vector.entries().len())
+            }
+            Singular::NotBasis { family, vector } => {
+                Cause::Dependent(*family, first(vector.entries()), vector.entries().len())
+            }
+        },
+        Err(PlanError::RulesClash { multipliers, .. }) => Cause::Clash(multipliers.entries().len()),
+        Err(PlanError::Composite(composite)) => Cause::Composite(composite.divisor),
+        Err(_) => Cause::Other,
+    }
+}
+
+/// The texts of the three files and the words, with why there is no plan.
+struct Refused {
+    kinematics: &'static str,
+    families: &'static str,
+    jobs: &'static str,
+    words: &'static [&'static str],
+    cause: Cause,
+}
+
+// The dimension is 1/0; modulo 15 the mass 1/3 has no value; two rules of one product clash; no rule leaves
+// it open; and two squares of one momentum are dependent.
+const REFUSED: [Refused; 5] = [
+    Refused {
+        kinematics: KINEMATICS,
+        families: FAMILIES,
+        jobs: JOB,
+        words: &["d=1/0"],
+        cause: Cause::Divisor(File::Words, 2, 1),
+    },
+    Refused {
+        kinematics: KINEMATICS,
+        families: FAMILIES,
+        jobs: JOB,
+        words: &["prime=15", "m2=1/3"],
+        cause: Cause::Composite(3),
+    },
+    Refused {
+        kinematics: CLASH,
+        families: DEPENDENT,
+        jobs: BUBBLE_JOB,
+        words: &[],
+        cause: Cause::Clash(2),
+    },
+    Refused {
+        kinematics: OPEN,
+        families: DEPENDENT,
+        jobs: BUBBLE_JOB,
+        words: &[],
+        cause: Cause::Open(1, 1),
+    },
+    Refused {
+        kinematics: CLOSED,
+        families: DEPENDENT,
+        jobs: BUBBLE_JOB,
+        words: &[],
+        cause: Cause::Dependent(1, 1, 2),
+    },
+];
+
+fn refused_cause(alloc: Global, refused: &Refused) -> Result<Cause, Fail> {
+    let outcome = plan_of(
+        alloc,
+        refused.kinematics,
+        refused.families,
+        refused.jobs,
+        refused.words,
+    )?;
+    Ok(cause_of(&outcome))
+}
+
+#[test]
+fn refuses_a_plan(rt: HostRuntime) -> Result<(), Fail> {
+    for refused in &REFUSED {
+        assert_eq!(rt; refused_cause(rt.alloc(), refused)?, refused.cause);
+    }
+    Ok(())
+}
