@@ -1,0 +1,5 @@
+pub mod Places
+pub mod Equations
+pub mod Appending
+pub mod Bounds
+pub mod Laws

@@ -1,0 +1,485 @@
+//! Equations modulo 101, worked by hand: those of the one-loop tadpole and bubble, and of a two-loop vacuum
+//! diagram; and bounds on terms.
+
+ghost use Rattle.std.specs.Prelude.{◌≡◌, ◌≤◌, ◌<◌, ◌↔◌, All, IsTrue, IfOk, OnOk, length};
+ghost use Rattle.kinematics.specs.Rules.{IsRule};
+ghost use Rattle.propagators.specs.Denominators.{IsDenominator};
+ghost use Rattle.propagators.specs.Forms.{product_total};
+ghost use Rattle.ibp_generator.specs.Shifts.{IsSeedIndex};
+ghost use Rattle.job_equations.specs.Equations.{IsSeedOf};
+ghost use Rattle.job_equations.specs.Bounds.{IsEquationShape};
+
+use super::*;
+use field_word::Modulus;
+use integral_index::{Integral, Order, ZeroSectors, is_index_list};
+use kinematics::{Momentum, Point, Rule, point};
+use out_of_memory::OutOfMemory;
+use propagators::{Basis, Denominator, family};
+use sparse_row::Row;
+use std::alloc::{AllocFailed, Global};
+use std::test::Fail;
+
+// What a helper of the tests may answer.
+#[derive(Debug, Drop)]
+enum Wrong {
+    Momentum,
+    Rules,
+    Denominators,
+    Seed,
+    Shape,
+    Point,
+    Basis,
+    OutOfMemory,
+}
+
+impl From<OutOfMemory> for Wrong {
+    fn from(_refused: OutOfMemory) -> Wrong {
+        Wrong::OutOfMemory
+    }
+}
+
+impl<T: Drop> From<AllocFailed<T>> for Wrong {
+    fn from(_refused: AllocFailed<T>) -> Wrong {
+        Wrong::OutOfMemory
+    }
+}
+
+fn momentum(alloc: Global, coefficients: &[i16]) -> Result<Momentum, Wrong> {
+    if !coefficients.iter().all(|c| -1000 <= *c && *c <= 1000) {
+        return Err(Wrong::Momentum);
+    }
+    Ok(Momentum::new(alloc, coefficients)?)
+}
+
+fn square(alloc: Global, coefficients: &[i16], mass: u64) -> Result<Denominator, Wrong> {
+    Ok(Denominator::Square {
+        momentum: momentum(alloc, coefficients)?,
+        mass,
+    })
+}
+
+// The rule that the square of a sum of external momenta has this value.
+fn rule(alloc: Global, coefficients: &[i16], value: u64) -> Result<Rule, Wrong> {
+    Ok(Rule {
+        left: momentum(alloc, coefficients)?,
+        right: momentum(alloc, coefficients)?,
+        value,
+    })
+}
+
+fn is_rule(rule: &Rule, externals: u32, modulus: &Modulus) -> bool
+    ensures { IsTrue result → IsRule modulus.now externals rule.now }
+{
+    let size = externals as usize;
+    rule.left.coefficients().len() == size
+        && rule.right.coefficients().len() == size
+        && rule.value < modulus.value()
+}
+
+fn are_rules(rules: &[Rule], externals: u32, modulus: &Modulus) -> bool
+    ensures { IsTrue result → All (IsRule modulus.now externals) rules.now }
+{
+    rules.iter().all(|rule| is_rule(rule, externals, modulus))
+}
+
+fn point_of(
+    alloc: Global,
+    rules: &[Rule],
+    externals: u32,
+    modulus: &Modulus,
+) -> Result<Point, Wrong>
+    requires { externals ≤ 6 }
+    ensures modulus { IfOk result (λ point. point.modulus ≡ modulus.now) }
+    ensures externals { IfOk result (λ point. point.externals ≡ externals) }
+{
+    if !are_rules(rules, externals, modulus) {
+        return Err(Wrong::Rules);
+    }
+    match point(alloc, rules, externals, modulus) {
+        Ok(found) => Ok(found),
+        Err(_) => Err(Wrong::Point),
+    }
+}
+
+fn is_denominator(denominator: &Denominator, width: usize, modulus: &Modulus) -> bool
+    ensures { IsTrue result → IsDenominator modulus.now width denominator.now }
+{
+    match denominator {
+        Denominator::Square { momentum, mass } => {
+            momentum.coefficients().len() == width && *mass < modulus.value()
+        }
+        Denominator::Bilinear { left, right, mass } => {
+            left.coefficients().len() == width
+                && right.coefficients().len() == width
+                && *mass < modulus.value()
+        }
+    }
+}
+
+fn are_denominators(denominators: &[Denominator], width: usize, modulus: &Modulus) -> bool
+    ensures { IsTrue result → All (IsDenominator modulus.now width) denominators.now }
+{
+    denominators
+        .iter()
+        .all(|denominator| is_denominator(denominator, width, modulus))
+}
+
+fn basis_of(
+    alloc: Global,
+    loops: u32,
+    denominators: &[Denominator],
+    point: &Point,
+    modulus: &Modulus,
+) -> Result<Basis, Wrong>
+    requires modulus { point.now.modulus ≡ modulus.now }
+    requires loops_from_1 { 1 ≤ loops }
+    requires few_loops { loops ≤ 6 }
+    requires count { length denominators.now ≡ product_total loops point.now.externals }
+    requires few { length denominators.now ≤ 20 }
+    ensures { IfOk result (λ basis. basis.point.modulus ≡ modulus.now) }
+{
+    let width = loops as usize + point.externals() as usize;
+    if !are_denominators(denominators, width, modulus) {
+        return Err(Wrong::Denominators);
+    }
+    match family(alloc, loops, denominators, point, modulus) {
+        Ok(basis) => Ok(basis),
+        Err(_) => Err(Wrong::Basis),
+    }
+}
+
+// The tadpole: k1 with this squared mass.
+fn tadpole(alloc: Global, mass: u64, modulus: &Modulus) -> Result<Basis, Wrong>
+    ensures { IfOk result (λ basis. basis.point.modulus ≡ modulus.now) }
+{
+    let point = point_of(alloc, &[], 0, modulus)?;
+    basis_of(alloc, 1, &[square(alloc, &[1], mass)?], &point, modulus)
+}
+
+// The bubble: k1 and k1 + p1, massless, with p1 p1 = 5.
+fn bubble(alloc: Global, modulus: &Modulus) -> Result<Basis, Wrong>
+    ensures { IfOk result (λ basis. basis.point.modulus ≡ modulus.now) }
+{
+    let point = point_of(alloc, &[rule(alloc, &[1], 5)?], 1, modulus)?;
+    let denominators = [square(alloc, &[1, 0], 0)?, square(alloc, &[1, 1], 0)?];
+    basis_of(alloc, 1, &denominators, &point, modulus)
+}
+
+// The vacuum diagram: k1 with the squared mass 3, k2, and the bilinear k1 (k1 + k2).
+fn vacuum(alloc: Global, modulus: &Modulus) -> Result<Basis, Wrong>
+    ensures { IfOk result (λ basis. basis.point.modulus ≡ modulus.now) }
+{
+    let point = point_of(alloc, &[], 0, modulus)?;
+    let denominators = [
+        square(alloc, &[1, 0], 3)?,
+        square(alloc, &[0, 1], 0)?,
+        Denominator::Bilinear {
+            left: momentum(alloc, &[1, 0])?,
+            right: momentum(alloc, &[1, 1])?,
+            mass: 0,
+        },
+    ];
+    basis_of(alloc, 2, &denominators, &point, modulus)
+}
+
+// The families of a job, with one modulus.
+fn push_family(bases: &mut Vec<Basis>, basis: Basis, modulus: &Modulus) -> Result<(), Wrong>
+    requires all { All (λ basis. basis.point.modulus ≡ modulus.now) bases.old.items }
+    requires one { basis.point.modulus ≡ modulus.now }
+    ensures { OnOk result (All (λ basis. basis.point.modulus ≡ modulus.now) bases.new.items) }
+{
+    bases.push(basis)?;
+    Ok(())
+}
+
+fn only(alloc: Global, basis: Basis, modulus: &Modulus) -> Result<Vec<Basis>, Wrong>
+    requires { basis.point.modulus ≡ modulus.now }
+    ensures { IfOk result (λ bases. All (λ basis. basis.point.modulus ≡ modulus.now) bases.items) }
+{
+    let mut bases = Vec::new(alloc);
+    push_family(&mut bases, basis, modulus)?;
+    Ok(bases)
+}
+
+fn is_seed_index(index: i8) -> bool
+    ensures { IsTrue result ↔ IsSeedIndex index }
+{
+    index.unsigned_abs() <= 100
+}
+
+fn are_seed_indices(indices: &[i8]) -> bool
+    ensures { IsTrue result ↔ All IsSeedIndex indices.now }
+{
+    indices.iter().all(|index| is_seed_index(*index))
+}
+
+fn is_seed_of(bases: &[Basis], seed: &Integral) -> bool
+    ensures { IsTrue result → IsSeedOf bases.now seed.now }
+{
+    let family = seed.family() as usize;
+    family < bases.len()
+        && seed.indices().len() == bases[family].width() as usize
+        && are_seed_indices(seed.indices())
+}
+
+fn are_seeds_of(bases: &[Basis], seeds: &[Integral]) -> bool
+    ensures { IsTrue result → All (IsSeedOf bases.now) seeds.now }
+{
+    seeds.iter().all(|seed| is_seed_of(bases, seed))
+}
+
+fn integral(alloc: Global, family: u32, indices: &[i8]) -> Result<Integral, Wrong> {
+    if !is_index_list(indices) {
+        return Err(Wrong::Seed);
+    }
+    Ok(Integral::new(alloc, family, indices)?)
+}
+
+fn integrals(alloc: Global, named: &[(u32, &[i8])]) -> Result<Vec<Integral>, Wrong> {
+    let mut seeds = Vec::new(alloc);
+    for (family, indices) in named {
+        seeds.push(integral(alloc, *family, indices)?)?;
+    }
+    Ok(seeds)
+}
+
+fn zeros_of(alloc: Global, listed: &[&[u32]]) -> Result<Vec<ZeroSectors>, Wrong> {
+    let mut zeros = Vec::new(alloc);
+    for sectors in listed {
+        zeros.push(ZeroSectors::new(alloc, sectors)?)?;
+    }
+    Ok(zeros)
+}
+
+// The equations of seeds, each named by its family and its indices.
+fn rows_of(
+    alloc: Global,
+    bases: &[Basis],
+    listed: &[&[u32]],
+    dimension: u128,
+    named: &[(u32, &[i8])],
+    modulus: &Modulus,
+) -> Result<Vec<Row>, Wrong>
+    requires { All (λ basis. basis.point.modulus ≡ modulus.now) bases.now }
+{
+    let zeros = zeros_of(alloc, listed)?;
+    let seeds = integrals(alloc, named)?;
+    if zeros.len() != bases.len() || !are_seeds_of(bases, &seeds) {
+        return Err(Wrong::Seed);
+    }
+    Ok(equations(
+        alloc,
+        bases,
+        &zeros,
+        modulus.reduce(dimension),
+        &seeds,
+        Order::Standard,
+        modulus,
+    )?)
+}
+
+// Whether the row has just these terms of a family, from the greatest integral to the least.
+fn has_terms(alloc: Global, row: &Row, family: u32, terms: &[(&[i8], u64)]) -> Result<bool, Wrong> {
+    let found = row.terms();
+    if found.len() != terms.len() {
+        return Ok(false);
+    }
+    for k in 0..found.len() {
+        if found[k].integral != integral(alloc, family, terms[k].0)?
+            || found[k].coefficient != terms[k].1
+        {
+            return Ok(false);
+        }
+    }
+    Ok(true)
+}
+
+// Whether these are the rows, each of a family and with these terms.
+fn are_rows(alloc: Global, rows: &[Row], wanted: &[(u32, &[(&[i8], u64)])]) -> Result<bool, Wrong> {
+    if rows.len() != wanted.len() {
+        return Ok(false);
+    }
+    for k in 0..rows.len() {
+        if !has_terms(alloc, &rows[k], wanted[k].0, wanted[k].1)? {
+            return Ok(false);
+        }
+    }
+    Ok(true)
+}
+
+// The derivative times k1 is 2 D1 and D1 + D2 - 5, that times p1 is D2 - D1 - 5 and D2 - D1 + 5.
+#[test]
+fn equations_of_the_bubble(rt: HostRuntime) -> Result<(), Fail> {
+    let alloc = rt.alloc();
+    let modulus = Modulus::new(101)?;
+    let bases = only(alloc, bubble(alloc, &modulus)?, &modulus)?;
+    let seeds: [(u32, &[i8]); 2] = [(0, &[2, -1]), (0, &[1, 1])];
+    let rows = rows_of(alloc, &bases, &[&[]], 7, &seeds, &modulus)?;
+    let wanted: [(u32, &[(&[i8], u64)]); 4] = [
+        (0, &[(&[2, -1], 4), (&[2, 0], 96), (&[1, 0], 1)]),
+        (
+            0,
+            &[
+                (&[3, -2], 99),
+                (&[3, -1], 10),
+                (&[2, -1], 3),
+                (&[2, 0], 5),
+                (&[1, 0], 100),
+            ],
+        ),
+        (0, &[(&[1, 2], 5), (&[1, 1], 4), (&[0, 2], 100)]),
+        (
+            0,
+            &[(&[2, 1], 5), (&[1, 2], 96), (&[0, 2], 1), (&[2, 0], 100)],
+        ),
+    ];
+    assert!(rt; are_rows(alloc, &rows, &wanted)?);
+    Ok(())
+}
+
+// The tadpole with the squared mass 3 has (d - 2a) I(a) - 6a I(a + 1). The bubble's sectors 1 and 2 are zero,
+// and the tadpole's sector 1 isn't.
+#[test]
+fn the_family_of_a_seed_decides(rt: HostRuntime) -> Result<(), Fail> {
+    let alloc = rt.alloc();
+    let modulus = Modulus::new(101)?;
+    let mut bases = only(alloc, tadpole(alloc, 3, &modulus)?, &modulus)?;
+    push_family(&mut bases, bubble(alloc, &modulus)?, &modulus)?;
+    let seeds: [(u32, &[i8]); 3] = [(0, &[1]), (1, &[1, 1]), (0, &[2])];
+    let rows = rows_of(alloc, &bases, &[&[], &[1, 2]], 7, &seeds, &modulus)?;
+    let wanted: [(u32, &[(&[i8], u64)]); 4] = [
+        (0, &[(&[2], 95), (&[1], 5)]),
+        (1, &[(&[1, 2], 5), (&[1, 1], 4)]),
+        (1, &[(&[2, 1], 5), (&[1, 2], 96)]),
+        (0, &[(&[3], 89), (&[2], 3)]),
+    ];
+    assert!(rt; are_rows(alloc, &rows, &wanted)?);
+    Ok(())
+}
+
+// The massless tadpole has (d - 2a) I(a): nothing for d = 2 and a = 1.
+#[test]
+fn an_empty_row_stays(rt: HostRuntime) -> Result<(), Fail> {
+    let alloc = rt.alloc();
+    let modulus = Modulus::new(101)?;
+    let bases = only(alloc, tadpole(alloc, 0, &modulus)?, &modulus)?;
+    let seeds: [(u32, &[i8]); 2] = [(0, &[1]), (0, &[2])];
+    let rows = rows_of(alloc, &bases, &[&[]], 2, &seeds, &modulus)?;
+    let wanted: [(u32, &[(&[i8], u64)]); 2] = [(0, &[]), (0, &[(&[2], 99)])];
+    assert!(rt; are_rows(alloc, &rows, &wanted)?);
+    let none = rows_of(alloc, &bases, &[&[]], 2, &[], &modulus)?;
+    assert!(rt; none.is_empty());
+    Ok(())
+}
+
+// With k1 k2 = D3 - D1 - 3, the derivatives by k1 are 2 D1 + 6, 0, D3 + D1 + 3 times k1, and
+// 2 D3 - 2 D1 - 6, 0, 2 D3 - 2 D1 - 6 + D2 times k2; those by k2 are 0, 2 D3 - 2 D1 - 6, D1 + 3 times k1, and
+// 0, 2 D2, D3 - D1 - 3 times k2.
+#[test]
+fn the_loop_momentum_is_the_outer_one(rt: HostRuntime) -> Result<(), Fail> {
+    let alloc = rt.alloc();
+    let modulus = Modulus::new(101)?;
+    let bases = only(alloc, vacuum(alloc, &modulus)?, &modulus)?;
+    let rows = rows_of(alloc, &bases, &[&[]], 7, &[(0, &[1, 1, 1])], &modulus)?;
+    let wanted: [(u32, &[(&[i8], u64)]); 4] = [
+        (
+            0,
+            &[
+                (&[2, 1, 1], 95),
+                (&[1, 1, 2], 98),
+                (&[1, 1, 1], 4),
+                (&[0, 1, 2], 100),
+            ],
+        ),
+        (
+            0,
+            &[
+                (&[2, 1, 1], 6),
+                (&[1, 1, 2], 6),
+                (&[0, 1, 2], 2),
+                (&[1, 0, 2], 100),
+                (&[2, 1, 0], 99),
+            ],
+        ),
+        (
+            0,
+            &[
+                (&[1, 2, 1], 6),
+                (&[1, 1, 2], 98),
+                (&[0, 2, 1], 2),
+                (&[0, 1, 2], 100),
+                (&[1, 2, 0], 99),
+            ],
+        ),
+        (0, &[(&[1, 1, 2], 3), (&[1, 1, 1], 4), (&[0, 1, 2], 1)]),
+    ];
+    assert!(rt; are_rows(alloc, &rows, &wanted)?);
+    Ok(())
+}
+
+fn is_shape(shape: &EquationShape) -> bool
+    ensures { IsTrue result → IsEquationShape shape.now }
+{
+    1 <= shape.loops
+        && shape.loops <= 6
+        && shape.externals <= 6
+        && shape.width <= 20
+        && shape.symmetries <= 64
+}
+
+fn are_shapes(shapes: &[EquationShape]) -> bool
+    ensures { IsTrue result → All IsEquationShape shapes.now }
+{
+    shapes.iter().all(is_shape)
+}
+
+fn are_of_families(seeds: &[Integral], count: usize) -> bool
+    ensures { IsTrue result → All (λ seed. seed.family < count) seeds.now }
+{
+    seeds.iter().all(|seed| (seed.family() as usize) < count)
+}
+
+// The bound on the terms of seeds of these families.
+fn bound_of(alloc: Global, shapes: &[EquationShape], families: &[u32]) -> Result<u64, Wrong> {
+    let mut seeds = Vec::new(alloc);
+    for family in families {
+        seeds.push(integral(alloc, *family, &[1])?)?;
+    }
+    if !are_shapes(shapes) || !are_of_families(&seeds, shapes.len()) || seeds.len() > 1 << 17 {
+        return Err(Wrong::Shape);
+    }
+    Ok(term_bound(shapes, &seeds))
+}
+
+fn shape(loops: u32, externals: u32, width: u32, symmetries: u32) -> EquationShape {
+    EquationShape {
+        loops,
+        externals,
+        width,
+        symmetries,
+    }
+}
+
+// The tadpole, the box and the double box have 1 · 3, 4 · 21 and 10 · 91 terms a seed; with two symmetries the
+// box has 6 · 21.
+#[test]
+fn bounds_on_terms(rt: HostRuntime) -> Result<(), Fail> {
+    let alloc = rt.alloc();
+    let shapes = [shape(1, 0, 1, 0), shape(1, 3, 4, 0), shape(2, 3, 9, 0)];
+    let bounds: [(&[u32], u64); 6] = [
+        (&[], 0),
+        (&[0], 3),
+        (&[1], 84),
+        (&[2], 910),
+        (&[0, 0, 1, 2, 2, 2], 2820),
+        (&[2, 1, 2, 0, 2, 0], 2820),
+    ];
+    for (families, bound) in bounds {
+        assert!(rt; bound_of(alloc, &shapes, families)? == bound);
+    }
+    let symmetric = [shape(1, 3, 4, 2)];
+    assert!(rt; bound_of(alloc, &symmetric, &[0, 0])? == 252);
+    let most = [shape(6, 6, 20, 64)];
+    assert!(rt; bound_of(alloc, &most, &[0])? == 57256);
+    Ok(())
+}
