@@ -25,7 +25,7 @@ fn main(rt: HostRuntime) -> ExitCode {
     let status = match words(&rt) {
         Ok(words) => kira_alone(rt.alloc(), &words, &mut files, &mut out, &mut err),
         Err(status) => {
-            tell(&status, &mut err);
+            tell(&status, "", &mut err);
             status
         }
     };

@@ -1,3 +1,6 @@
-pub mod Tadpole
+pub mod Told
+pub mod Loaded
+pub mod Messages
+pub mod Causes
 pub mod TwoTerms
 pub mod TextOfTable

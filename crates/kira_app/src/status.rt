@@ -4,6 +4,7 @@ ghost use Rattle.std.specs.Prelude.{◌≡◌};
 ghost use Rattle.kira_app.specs.Message.{exit_code_of};
 
 use field_word::Composite;
+use job_plan::InputFault;
 use out_of_memory::OutOfMemory;
 use reduction_core::ForwardFault;
 
@@ -12,8 +13,10 @@ use reduction_core::ForwardFault;
 pub enum Status {
     /// The whole table was written and flushed.
     Ok,
-    /// The words or the files are of a form that isn't served yet.
+    /// The words or the job are of a form that isn't served yet.
     NotYet,
+    /// The first fault of the words and the files.
+    Input(InputFault),
     /// An inverse was needed that isn't there: the divisor divides the modulus.
     Composite(Composite),
     /// Reading a file failed.
@@ -30,6 +33,7 @@ pub fn exit_code(status: &Status) -> u8
 {
     match status {
         Status::Ok => 0,
+        Status::Input(_) => 3,
         Status::Composite(_) => 5,
         Status::ReadFault => 7,
         Status::WriteFault => 9,

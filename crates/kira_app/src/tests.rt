@@ -2,7 +2,7 @@
 //! hand from the two equations, and their residues by Python.
 
 use super::*;
-use crate::job_files::{FAMILIES, JOBS, KINEMATICS};
+use crate::tadpole_files::{FAMILIES, JOBS, KINEMATICS};
 use kira_outside::{Entry, MemoryFiles, MemorySink, Text8};
 use std::alloc::Global;
 use std::test::Fail;
@@ -15,7 +15,7 @@ masters 1
 tad[1]
 ";
 
-fn entry(alloc: Global, name: &str, bytes: &[u8]) -> Result<Entry, Fail> {
+pub(crate) fn entry(alloc: Global, name: &str, bytes: &[u8]) -> Result<Entry, Fail> {
     Ok(Entry {
         name: Text8::new(alloc, name)?,
         bytes: bytes.to_vec(alloc)?,
@@ -33,14 +33,14 @@ fn files(alloc: Global, jobs: &[u8], failing: Vec<u64>) -> Result<MemoryFiles, F
 
 // How a call ended, and what it wrote.
 #[derive(Drop)]
-struct Ending {
-    status: Status,
-    out: Vec<u8>,
-    err: Vec<u8>,
+pub(crate) struct Ending {
+    pub status: Status,
+    pub out: Vec<u8>,
+    pub err: Vec<u8>,
 }
 
 // A call with these words, separated by blanks, over these files and this sink.
-fn call_with(
+pub(crate) fn call_with(
     alloc: Global,
     line: &str,
     files: &mut MemoryFiles,
@@ -59,7 +59,7 @@ fn call_with(
     })
 }
 
-fn plain_sink(alloc: Global) -> Result<MemorySink, Fail> {
+pub(crate) fn plain_sink(alloc: Global) -> Result<MemorySink, Fail> {
     Ok(MemorySink::new(alloc, Vec::new(alloc), 65536, 65536)?)
 }
 
@@ -69,6 +69,18 @@ fn plain_call(alloc: Global, line: &str) -> Result<Ending, Fail> {
         alloc,
         line,
         &mut files(alloc, JOBS, Vec::new(alloc))?,
+        &mut out,
+    )
+}
+
+// A call over the tadpole's files, in whose job file one text stands in place of another.
+fn edited_call(alloc: Global, old: &str, new: &str, line: &str) -> Result<Ending, Fail> {
+    let jobs = str::from_utf8(JOBS)?.replace(alloc, old, new)?;
+    let mut out = plain_sink(alloc)?;
+    call_with(
+        alloc,
+        line,
+        &mut files(alloc, jobs.as_bytes(), Vec::new(alloc))?,
         &mut out,
     )
 }
@@ -128,22 +140,10 @@ fn a_divisor_of_the_modulus_is_named(rt: HostRuntime) -> Result<(), Fail> {
 
 #[test]
 fn other_words_are_not_served(rt: HostRuntime) -> Result<(), Fail> {
-    let lines = [
-        "",
-        "job.yaml",
-        "d=7 jobs.yaml",
-        "jobs.yaml d=7 d=7",
-        "jobs.yaml d=",
-        "jobs.yaml m2=-3",
-        "jobs.yaml d=1234567890123456789",
-        "jobs.yaml prime=2",
-        "jobs.yaml prime=1",
-        "jobs.yaml prime=9223372036854775809",
-        "jobs.yaml x=1",
-    ];
-    for line in lines {
+    for line in ["", "-p 2 jobs.yaml", "jobs.yaml --save=s", "jobs.yaml -"] {
         let ended = plain_call(rt.alloc(), line)?;
         assert_eq!(rt; ended.status, Status::NotYet, "{line}");
+        assert_eq!(rt; exit_code(&ended.status), 21);
         assert_eq!(rt;
             ended.err.as_slice(),
             b"kira: not yet\n".as_slice(),
@@ -154,26 +154,40 @@ fn other_words_are_not_served(rt: HostRuntime) -> Result<(), Fail> {
     Ok(())
 }
 
+// Files with other values are accepted and not served, and so are values that aren't whole numbers.
 #[test]
-fn other_or_missing_files_are_not_served(rt: HostRuntime) -> Result<(), Fail> {
+fn other_jobs_are_not_served(rt: HostRuntime) -> Result<(), Fail> {
     let alloc = rt.alloc();
-    for jobs in [b"".as_slice(), b"jobs:", b"jobs: more"] {
-        let mut out = plain_sink(alloc)?;
-        let mut held = files(alloc, jobs, Vec::new(alloc))?;
-        let ended = call_with(alloc, "jobs.yaml", &mut held, &mut out)?;
-        assert_eq!(rt; ended.status, Status::NotYet);
-        assert!(rt; ended.out.is_empty());
+    for line in ["jobs.yaml d=-7", "jobs.yaml m2=1/2", "jobs.yaml d=7/1"] {
+        let ended = plain_call(alloc, line)?;
+        assert_eq!(rt; ended.status, Status::NotYet, "{line}");
     }
-    let mut entries = Vec::new(alloc);
-    entries.push(entry(alloc, "jobs.yaml", JOBS)?)?;
-    let mut out = plain_sink(alloc)?;
-    let ended = call_with(
-        alloc,
-        "jobs.yaml",
-        &mut MemoryFiles::new(entries, Vec::new(alloc)),
-        &mut out,
-    )?;
+    let ended = edited_call(alloc, "r: 2", "r: 3", "jobs.yaml")?;
     assert_eq!(rt; ended.status, Status::NotYet);
+    assert_eq!(rt; ended.err.as_slice(), b"kira: not yet\n".as_slice());
+    Ok(())
+}
+
+// Comments, quotes and blanks are no values.
+#[test]
+fn other_spellings_of_the_tadpole_are_served(rt: HostRuntime) -> Result<(), Fail> {
+    let alloc = rt.alloc();
+    let ended = edited_call(
+        alloc,
+        "      reduce:",
+        "      # the seeds\r\n      \"reduce\":",
+        "jobs.yaml",
+    )?;
+    assert_eq!(rt; ended.status, Status::Ok);
+    assert_eq!(rt; ended.out.as_slice(), TADPOLE.as_bytes());
+    let ended = edited_call(
+        alloc,
+        "[tad], sectors: [1], r: 2",
+        "[\"tad\"], sectors: [ 1 ], r: 2",
+        "jobs.yaml m2=003",
+    )?;
+    assert_eq!(rt; ended.status, Status::Ok);
+    assert_eq!(rt; ended.out.as_slice(), TADPOLE.as_bytes());
     Ok(())
 }
 

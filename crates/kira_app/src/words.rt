@@ -1,121 +1,61 @@
 //! The words of a call.
 
-ghost use Rattle.std.specs.Prelude.{◌≡◌, ◌≤◌, option_map, map};
+ghost use Rattle.std.specs.Prelude.{◌≡◌, ◌≤◌, true, length, map, IfOk};
+ghost use Rattle.std.specs.List.{list_all};
 ghost use Rattle.std.specs.String.{string_bytes};
-ghost use Rattle.kira_app.specs.Words.{number_of, given_once, with_word, with_words, no_settings, request_of_settings, request_of};
-ghost use Rattle.kira_app.specs.ShownWords.{shown_settings, shown_request};
+ghost use Rattle.kira_app.specs.Words.{is_served_word, are_served, job_file, overrides_of};
 
-use field_word::Modulus;
+use job_plan::{Override, read_override};
+use out_of_memory::OutOfMemory;
+use std::alloc::Global;
 
-/// What the words of a call ask for.
-#[derive(Clone, Copy)]
-pub(crate) struct Request {
-    /// The modulus.
-    pub modulus: Modulus,
-    /// The dimension, as a residue.
-    pub dimension: u64,
-    /// The squared mass, as a residue.
-    pub mass: u64,
-}
+/// There are fewer words than this, and fewer bytes in each.
+const LIMIT: usize = 1 << 31;
 
-// The settings that were given so far.
-#[derive(Clone, Copy)]
-struct Settings {
-    prime: Option<u64>,
-    dimension: Option<u64>,
-    mass: Option<u64>,
-}
-
-// What the tadpole's job file says where no word says otherwise.
-const PRIME: u64 = 101;
-
-const DIMENSION: u64 = 7;
-
-const MASS: u64 = 3;
-
-/// What the words ask for; `None` where they are of another form.
-pub(crate) fn read_words(words: &[String]) -> Option<Request>
-    ensures { option_map shown_request result ≡ request_of (map string_bytes words.now) }
+// Whether a word is no option and not too long.
+fn is_served_word(word: &[u8]) -> bool
+    ensures { result ≡ is_served_word word.now }
 {
-    let (job, rest) = words.split_first()?;
-    if job.as_str() != "jobs.yaml" {
-        return None;
-    }
-    read_settings(rest)?.request()
+    !word.starts_with(b"-") && word.len() < LIMIT
 }
 
-// The settings of all these words.
-fn read_settings(words: &[String]) -> Option<Settings>
-    ensures { option_map shown_settings result ≡ with_words no_settings (map string_bytes words.now) }
+// Whether each word is served.
+fn all_served(words: &[String]) -> bool
+    ensures { result ≡ list_all is_served_word (map string_bytes words.now) }
 {
-    let mut settings = Settings {
-        prime: None,
-        dimension: None,
-        mass: None,
-    };
     for word in words {
-        settings = settings.with(word.as_bytes())?;
+        if !is_served_word(word.as_bytes()) {
+            return false;
+        }
     }
-    Some(settings)
+    true
 }
 
-impl Settings {
-    // These settings with one word more.
-    fn with(self, word: &[u8]) -> Option<Settings>
-        ensures { option_map shown_settings result ≡ with_word (shown_settings self) word.now }
-    {
-        if let Some(text) = word.strip_prefix(b"prime=".as_slice()) {
-            let prime = given_once(self.prime, number(text, 19))?;
-            return Some(Settings { prime, ..self });
-        }
-        if let Some(text) = word.strip_prefix(b"d=".as_slice()) {
-            let dimension = given_once(self.dimension, number(text, 18))?;
-            return Some(Settings { dimension, ..self });
-        }
-        if let Some(text) = word.strip_prefix(b"m2=".as_slice()) {
-            let mass = given_once(self.mass, number(text, 18))?;
-            return Some(Settings { mass, ..self });
-        }
-        None
-    }
-
-    // What these settings ask for.
-    fn request(self) -> Option<Request>
-        ensures { option_map shown_request result ≡ request_of_settings (shown_settings self) }
-    {
-        let modulus = Modulus::new(self.prime.unwrap_or(PRIME)).ok()?;
-        Some(Request {
-            modulus,
-            dimension: modulus.reduce(u128::from(self.dimension.unwrap_or(DIMENSION))),
-            mass: modulus.reduce(u128::from(self.mass.unwrap_or(MASS))),
-        })
-    }
-}
-
-// A setting with its first value; `None` where it has one, or none is given.
-fn given_once(before: Option<u64>, number: Option<u64>) -> Option<Option<u64>>
-    ensures { result ≡ given_once before number }
+/// Whether there are words, not too many of them, and each is served.
+pub(crate) fn are_served(words: &[String]) -> bool
+    ensures { result ≡ are_served (map string_bytes words.now) }
 {
-    match before {
-        None => Some(Some(number?)),
-        Some(_) => None,
+    1 <= words.len() && words.len() < LIMIT && all_served(words)
+}
+
+/// The name of the job file, empty where there are no words.
+pub(crate) fn job_file(words: &[String]) -> &str
+    ensures { result.now ≡ job_file (map string_bytes words.now) }
+{
+    match words {
+        [] => "",
+        [word, ..] => word.as_str(),
     }
 }
 
-// The number of a text of 1 to `most` digits.
-fn number(text: &[u8], most: usize) -> Option<u64>
-    requires { most ≤ 19 }
-    ensures { result ≡ number_of most text.now }
+/// The words behind the job file, each with its place among all words.
+pub(crate) fn overrides(alloc: Global, words: &[String]) -> Result<Vec<Override>, OutOfMemory>
+    requires { are_served (map string_bytes words.now) ≡ true }
+    ensures { IfOk result (λ found. found.items ≡ overrides_of (map string_bytes words.now)) }
 {
-    if text.is_empty() || text.len() > most {
-        return None;
+    let mut found = Vec::with_capacity(alloc, words.len())?;
+    for i in 1..words.len() {
+        found.push(read_override(alloc, i as u32 + 1, words[i].as_str())?)?;
     }
-    let mut value = 0;
-    for byte in text {
-        if !byte.is_ascii_digit() {
-            return None;
-        }
-        value = 10 * value + u64::from(*byte - b'0');
-    }
-    Some(value)
+    Ok(found)
 }
