@@ -4,8 +4,10 @@
 Each rule prints a line where it fails; the exit status is 1 where one did.
 """
 import pathlib
+import shutil
 import subprocess
 import sys
+import tempfile
 
 TOP = pathlib.Path(__file__).resolve().parent.parent
 faults = []
@@ -73,12 +75,8 @@ def check_examples():
             fail(f"{one.relative_to(TOP)}: differs from {other.relative_to(TOP)}")
 
 
-def check_example_tables():
+def check_example_tables(program):
     """The built program prints the expected table of each example."""
-    program = TOP / "crates" / "kira" / "out" / "kira"
-    if not program.is_file():
-        print("crates/kira/out/kira isn't built: the examples were not run")
-        return
     for folder in sorted((TOP / "examples").iterdir()):
         expected = folder / "expected"
         if expected.is_file():
@@ -87,12 +85,53 @@ def check_example_tables():
                 fail(f"examples/{folder.name}: the table differs from the expected one")
 
 
+def edited(text, first, count, with_text):
+    """The text with so many lines from this one on, counted from 1, replaced."""
+    lines = text.split("\n")
+    lines[first - 1 : first - 1 + count] = with_text.split("\n")
+    return "\n".join(lines)
+
+
+def refuses(program, folder, message):
+    """The program ends with status 3, prints nothing, and complains by this line."""
+    run = subprocess.run([program, "jobs.yaml"], cwd=folder, capture_output=True)
+    return (run.returncode, run.stdout, run.stderr) == (3, b"", f"kira: {message}\n".encode())
+
+
+def check_refusals(program):
+    """The built program refuses each file of the table, and one that is too long, with its message."""
+    source = TOP / "examples" / "refused"
+    rows = [row.split("\t") for row in (source / "refusals.tsv").read_text().splitlines() if not row.startswith("#")]
+    for name, first, count, message, text in rows:
+        with tempfile.TemporaryDirectory() as place:
+            folder = pathlib.Path(shutil.copytree(source, place, dirs_exist_ok=True))
+            with_text = text.encode().decode("unicode_escape")
+            (folder / name).write_text(edited((source / name).read_text(), int(first), int(count), with_text))
+            if not refuses(program, folder, f"{name}:{message}"):
+                fail(f"examples/refused/refusals.tsv: {name} with {text[:60]} isn't refused with {message}")
+    for name in ("jobs.yaml", "config/integralfamilies.yaml", "config/kinematics.yaml"):
+        with tempfile.TemporaryDirectory() as place:
+            folder = pathlib.Path(shutil.copytree(source, place, dirs_exist_ok=True))
+            (folder / name).write_bytes(b"#" * (2**24 + 1))
+            if not refuses(program, folder, f"{name}:0: longer than 16777216 bytes"):
+                fail(f"examples/refused: {name} with a byte too many isn't refused")
+
+
+def check_program():
+    program = TOP / "crates" / "kira" / "out" / "kira"
+    if not program.is_file():
+        print("crates/kira/out/kira isn't built: the examples were not run")
+        return
+    check_example_tables(program)
+    check_refusals(program)
+
+
 check_handles()
 crates = crates_of_list()
 check_crates(crates)
 check_must_fail(crates)
 check_examples()
-check_example_tables()
+check_program()
 for fault in faults:
     print(fault)
 sys.exit(1 if faults else 0)
