@@ -1,8 +1,8 @@
 pub mod Words
+pub mod Steps
 pub mod Told
-pub mod JobInput
-pub mod TadpoleFiles
-pub mod Request
+pub mod Sources
+pub mod KeptSources
+pub mod Plans
 pub mod Message
-pub mod Tadpole
 pub mod TopClauses

@@ -1,5 +1,7 @@
 -- The exit status and the message of each status. The project's own.
-use Rattle.std.specs.Prelude.{◌≡◌, ◌⊎◌, ℕ, List, [], ◌++◌, codes, decimal, Option, option_map}
+use Rattle.std.specs.Prelude.{◌≡◌, ◌⊎◌, ℕ, List, [], ◌∷◌, ◌++◌, codes, decimal, Option, option_map}
+use Rattle.std.specs.List.{concat}
+use Rattle.yaml_text.specs.Lines.{Bytes}
 use Rattle.kira_outside.specs.Faults.{Rose}
 use Rattle.kira_outside.specs.Stream.{Stream, appended}
 use Rattle.table_text.specs.Sending.{IsPrefixSent}
@@ -9,48 +11,76 @@ use Rattle.input_schema.specs.declared.faults.File.{File}
 use Rattle.input_schema.specs.declared.faults.File.TheVariants as file
 use Rattle.input_schema.specs.declared.faults.InputFault.{InputFault}
 use Rattle.input_schema.specs.Kinds.{text_of}
+use Rattle.job_point.specs.declared.faults.Excess.{Excess}
+use Rattle.job_point.specs.declared.faults.Excess.TheVariants.{Seeds, Selected, Terms}
+use Rattle.job_point.specs.declared.faults.Singular as point
+use Rattle.job_point.specs.declared.faults.Singular.TheVariants.{ZeroDivisor, RulesOpen, NotBasis}
 use Rattle.kira_app.specs.declared.status.Status.{Status}
-use Rattle.kira_app.specs.declared.status.Status.TheVariants.{Ok, NotYet, Input, Composite, ReadFault, WriteFault, OutOfMemory}
+use Rattle.kira_app.specs.declared.status.Status.TheVariants.{Ok, NotYet, Input, Singular, RulesClash, Composite, TooMany, ReadFault, WriteFault, OutOfMemory}
+use Rattle.kira_app.specs.declared.refusal.Refusal.{Refusal}
 
 abbrev pub exit_code_of : Status → ℕ
 exit_code_of Ok = 0
 exit_code_of (Input fault) = 3
+exit_code_of (Singular cause) = 4
+exit_code_of (RulesClash multipliers residue) = 4
 exit_code_of (Composite fault) = 5
+exit_code_of (TooMany what count) = 6
 exit_code_of ReadFault = 7
 exit_code_of WriteFault = 9
 exit_code_of OutOfMemory = 14
 exit_code_of NotYet = 21
 
--- how a message names a file. No list file is read yet, and so none is named.
-abbrev pub file_name : List ℕ → File → List ℕ
-file_name job file.Words = codes "words"
-file_name job file.Jobs = job
-file_name job file.Families = codes "config/integralfamilies.yaml"
-file_name job file.Kinematics = codes "config/kinematics.yaml"
-file_name job (file.List number) = []
+-- ---- what a message says, in pieces that stand one behind the other
 
--- where a fault stands, and what is wrong there
-abbrev pub rest_text : InputFault → List ℕ
-rest_text fault = (decimal fault.line ++ (codes ": " ++ text_of fault.kind)) ++ codes "\n"
+-- how a message names a file, where the job file has the one name and the list file at fault the other
+abbrev pub file_name : Bytes → Bytes → File → Bytes
+file_name job list file.Words = codes "words"
+file_name job list file.Jobs = job
+file_name job list file.Families = codes "config/integralfamilies.yaml"
+file_name job list file.Kinematics = codes "config/kinematics.yaml"
+file_name job list (file.List number) = list
 
-abbrev pub fault_text : List ℕ → InputFault → List ℕ
-fault_text job fault = (codes "kira: " ++ (file_name job fault.file ++ codes ":")) ++ rest_text fault
+abbrev pub fault_pieces : Bytes → InputFault → List Bytes
+fault_pieces name fault = name ∷ codes ":" ∷ decimal fault.line ∷ codes ": " ∷ text_of fault.kind ∷ []
 
-abbrev pub divisor_text : ℕ → List ℕ
-divisor_text divisor = codes "kira: the prime is divisible by " ++ (decimal divisor ++ codes "\n")
+abbrev pub zero_pieces : Bytes → ℕ → ℕ → List Bytes
+zero_pieces name line at = name ∷ codes ":" ∷ decimal line ∷ codes ": division by zero at byte " ∷ decimal at ∷ []
 
--- The line that is written to the error stream, where the job file has this name; Ok has none.
-abbrev pub message_text : List ℕ → Status → List ℕ
-message_text job Ok = []
-message_text job (Input fault) = fault_text job fault
-message_text job (Composite fault) = divisor_text fault.divisor
-message_text job ReadFault = codes "kira: reading failed\n"
-message_text job WriteFault = codes "kira: writing failed\n"
-message_text job OutOfMemory = codes "kira: out of memory\n"
-message_text job NotYet = codes "kira: not yet\n"
+abbrev pub singular_pieces : Bytes → Bytes → point.Singular → List Bytes
+singular_pieces job name (ZeroDivisor file line at) = zero_pieces (file_name job name file) line at
+singular_pieces job name (RulesOpen vector) = codes "the scalar product rules leave a product open" ∷ []
+singular_pieces job name (NotBasis family vector) = codes "the denominators of family " ∷ name ∷ codes " are dependent" ∷ []
+
+abbrev pub excess_text : Excess → Bytes
+excess_text Seeds = codes "more than 131072 seeds"
+excess_text Selected = codes "more than 131072 selected integrals"
+excess_text Terms = codes "more than 16777216 terms"
+
+-- what a message says of a status, where the job file has the one name, and the list file at fault, or the
+-- family, the other
+abbrev pub pieces : Bytes → Bytes → Status → List Bytes
+pieces job name Ok = []
+pieces job name (Input fault) = fault_pieces (file_name job name fault.file) fault
+pieces job name (Singular cause) = singular_pieces job name cause
+pieces job name (RulesClash multipliers residue) = codes "the scalar product rules contradict each other" ∷ []
+pieces job name (Composite fault) = codes "the prime is divisible by " ∷ decimal fault.divisor ∷ []
+pieces job name (TooMany what count) = excess_text what ∷ []
+pieces job name ReadFault = codes "reading failed" ∷ []
+pieces job name WriteFault = codes "writing failed" ∷ []
+pieces job name OutOfMemory = codes "out of memory" ∷ []
+pieces job name NotYet = codes "not yet" ∷ []
+
+-- a line of the program that says this
+abbrev pub line_of : List Bytes → Bytes
+line_of pieces = concat (codes "kira: " ∷ (pieces ++ codes "\n" ∷ []))
+
+-- The line that is written to the error stream, where the job file has this name.
+abbrev pub message_text : Bytes → Refusal → Bytes
+message_text job refusal = line_of (pieces job refusal.name refusal.status)
 
 -- the text was written behind what was there, or a prefix of it where the count of faults rose
-abbrev pub IsToldOf : List ℕ → Option Stream → Option Stream → ℕ → ℕ → Type 0
+abbrev pub IsToldOf : Bytes → Option Stream → Option Stream → ℕ → ℕ → Type 0
 IsToldOf text before after faults faults_after =
     (after ≡ option_map (appended text) before) ⊎ (Rose faults faults_after × IsPrefixSent text before after)
 

@@ -1,53 +1,53 @@
--- What is claimed of files: contents only where the files tell them.
-use Rattle.std.specs.Prelude.{◌≡◌, ◌≢◌, ⊤, ℕ, List, Option, None, MatchOption, Result, Ok, Err}
+-- What is claimed of a step: contents only where the files tell them. The project's own.
+use Rattle.std.specs.Prelude.{◌≡◌, ◌≢◌, ⊤, ℕ, Option, None, MatchOption, Result, Ok, Err}
 use Rattle.kira_outside.specs.Faults.{Rose}
 use Rattle.kira_outside.specs.Held.{Held}
-use Rattle.input_schema.specs.declared.faults.InputFault.{InputFault}
 use Rattle.input_schema.specs.declared.faults.InputKind.TheVariants.{Missing}
-use Rattle.input_schema.specs.Readings.{Outcome, Reading, Is}
 use Rattle.kira_app.specs.declared.status.Status.{Status}
 use Rattle.kira_app.specs.declared.status.Status.TheVariants as status
+use Rattle.kira_app.specs.declared.refusal.Refusal.{Refusal}
+use Rattle.kira_app.specs.Steps.{Answer, Step}
 
 -- where the content is told, this is true of it
 abbrev pub IfTold : Option Held → (Held → Type 0) → Type 0
 IfTold held P = MatchOption held ⊤ P
 
+-- what has to hold where a call is refused with a status: of memory nothing, of reading that it failed, and of
+-- any other that it is the refusal of a step
+abbrev pub ByStatus : Status → Type 0 → Type 0 → Type 0
+ByStatus status.OutOfMemory failed refused = ⊤
+ByStatus status.ReadFault failed refused = failed
+ByStatus other failed refused = refused
+
 -- ---- a step that reads no file
 
--- the first fault of the reading, or want of memory
-abbrev pub Refuses : {A : Type 0} → Reading A → Status → Type 0
-Refuses reading (status.Input fault) = reading (Err fault)
-Refuses reading status.OutOfMemory = ⊤
-Refuses reading other = ⊥
+-- the refusal of the step, or want of memory
+abbrev pub Refuses : {A : Type 0} → Step A → Refusal → Type 0
+Refuses step refusal = ByStatus refusal.status ⊥ (step (Err refusal))
 
--- what the step answers
-abbrev pub Answers : {A : Type 0} → Reading A → Result A Status → Type 0
-Answers reading (Ok a) = reading (Ok a)
-Answers reading (Err refusal) = Refuses reading refusal
-
-abbrev pub Gives : {A : Type 0} → Outcome A → Result A Status → Type 0
-Gives outcome = Answers (Is outcome)
-
--- the fault isn't that a file is missing
-abbrev pub IsPresent : Status → Type 0
-IsPresent (status.Input fault) = fault.kind ≢ Missing
-IsPresent other = ⊤
+-- what a call for the step answers
+abbrev pub Answers : {A : Type 0} → Step A → Step A
+Answers step (Ok a) = step (Ok a)
+Answers step (Err refusal) = Refuses step refusal
 
 -- ---- a step that reads files, where the count of faults was the one number before it and is the other behind it
 
--- the first fault of the reading, a fault that was counted, or want of memory
-abbrev pub RefusesTold : {A : Type 0} → Option Held → ℕ → ℕ → (Held → Reading A) → Status → Type 0
-RefusesTold held before now reading (status.Input fault) = IfTold held (λ files. reading files (Err fault))
-RefusesTold held before now reading status.ReadFault = Rose before now
-RefusesTold held before now reading status.OutOfMemory = ⊤
-RefusesTold held before now reading other = ⊥
+-- the refusal of the step, a fault that was counted, or want of memory
+abbrev pub RefusesTold : {A : Type 0} → Option Held → ℕ → ℕ → (Held → Step A) → Refusal → Type 0
+RefusesTold held before now step refusal = ByStatus refusal.status (Rose before now) (IfTold held (λ files. step files (Err refusal)))
 
--- what the step answers
-abbrev pub Tells : {A : Type 0} → Option Held → ℕ → ℕ → (Held → Reading A) → Result A Status → Type 0
-Tells held before now reading (Ok a) = IfTold held (λ files. reading files (Ok a)) × (now ≡ before)
-Tells held before now reading (Err refusal) = RefusesTold held before now reading refusal
+-- what a call for the step answers
+abbrev pub Tells : {A : Type 0} → Option Held → ℕ → ℕ → (Held → Step A) → Step A
+Tells held before now step (Ok a) = IfTold held (λ files. step files (Ok a)) × (now ≡ before)
+Tells held before now step (Err refusal) = RefusesTold held before now step refusal
+
+-- ---- files that are missing
+
+-- the status is that a file is missing
+abbrev pub SaysMissing : Status → Type 0
+SaysMissing (status.Input fault) = fault.kind ≡ Missing
+SaysMissing other = ⊥
 
 -- where nothing is told, a file is called missing only if the count rose
 abbrev pub IsMissed : Option Held → ℕ → ℕ → Status → Type 0
-IsMissed held before now (status.Input fault) = held ≡ None → fault.kind ≡ Missing → Rose before now
-IsMissed held before now other = ⊤
+IsMissed held before now s = held ≡ None → SaysMissing s → Rose before now

@@ -1,7 +1,7 @@
 -- What the call of the program promises.
-use Rattle.std.specs.Prelude.{◌≡◌, ◌≢◌, ◌⊎◌, ◌≤◌, ◌<◌, ⊤, ℕ, Bool, true, false, List, [], ◌∷◌, codes, Option, None, Some, option_map, Ok, Err}
+use Rattle.std.specs.Prelude.{◌≡◌, ◌≢◌, ◌⊎◌, ◌≤◌, ◌<◌, ⊤, ℕ, List, Option, None, Some, option_map, Ok, Err}
 use Rattle.std.specs.Int.{◌∣◌}
-use Rattle.integral_index.specs.declared.Order.TheVariants.{Standard}
+use Rattle.yaml_text.specs.Lines.{Bytes}
 use Rattle.sparse_row.specs.Row.{Row}
 use Rattle.sparse_row.specs.ReducedList.{IsReduced}
 use Rattle.kira_outside.specs.Faults.{Rose}
@@ -10,59 +10,65 @@ use Rattle.kira_outside.specs.Stream.{Stream}
 use Rattle.table_text.specs.Sending.{sent, IsPrefixSent}
 use Rattle.table_text.specs.Pieces.{name_of}
 use Rattle.table_text.specs.TableText.{table_text, zeros_of}
+use Rattle.job_equations.specs.Equations.{AreEquations}
+use Rattle.job_point.specs.declared.faults.Singular.TheVariants as singular
+use Rattle.job_plan.specs.Outlines.{Outline}
+use Rattle.job_plan.specs.Plans.{Plan}
+use Rattle.kira_app.specs.declared.trees.Trees.{Trees}
 use Rattle.kira_app.specs.declared.status.Status.{Status}
 use Rattle.kira_app.specs.declared.status.Status.TheVariants as status
-use Rattle.kira_app.specs.declared.request.Request.{Request}
-use Rattle.kira_app.specs.declared.job_input.JobInput.{JobInput}
-use Rattle.kira_app.specs.Told.{IfTold}
-use Rattle.kira_app.specs.Words.{are_served}
-use Rattle.kira_app.specs.JobInput.{ReadsJob, IsMissedIn}
-use Rattle.kira_app.specs.Request.{request_of}
-use Rattle.kira_app.specs.Tadpole.{tadpole_equations, tadpole_selection}
+use Rattle.kira_app.specs.declared.refusal.Refusal.{Refusal}
+use Rattle.kira_app.specs.Steps.{plain}
+use Rattle.kira_app.specs.Told.{IfTold, IsMissed}
+use Rattle.kira_app.specs.Words.{are_served, job_file, overrides_of}
+use Rattle.kira_app.specs.Sources.{TreesOf, OutlineOf}
+use Rattle.kira_app.specs.Plans.{PlanOf}
 
 -- ---- the table
 
--- the table is the reduced list of the request's equations
-abbrev pub IsTableOf : Request → List Row → Type 0
-IsTableOf r table = IsReduced r.modulus Standard (tadpole_equations r.modulus Standard r.dimension r.mass) table
+-- the equations of the plan's seeds
+abbrev pub AreEquationsOf : Plan → List Row → Type 0
+AreEquationsOf plan equations = AreEquations plan.bases plan.zeros plan.dimension plan.order plan.seeds equations
 
--- the text of the table for the tadpole's selection. One family is there, and none of its sectors is listed as zero
-abbrev pub text_of : Request → List Row → List ℕ
-text_of r table =
-    table_text (name_of (codes "tad" ∷ [])) (zeros_of ([] ∷ [])) (record { modulus = r.modulus; order = Standard; rows = table }) tadpole_selection
+-- the table is the reduced list of the plan's equations
+pub record IsTableOf (plan : Plan) (table : List Row) : Type 0 where
+  pub equations : List Row
+  pub are : AreEquationsOf plan equations
+  pub reduced : IsReduced plan.modulus plan.order equations table
 
--- there is a reduced list of the request's equations, and the bytes are the text of every such list
-pub record IsTextOf (r : Request) (bytes : List ℕ) : Type 0 where
-  pub exists : (table : List Row) × IsTableOf r table
-  pub every : (table : List Row) → IsTableOf r table → bytes ≡ text_of r table
+-- the text of the table for the selection, with the names and the zero sectors of the families
+abbrev pub text_of : Plan → List Row → List ℕ
+text_of plan table =
+    table_text (name_of plan.names) (zeros_of plan.zeros) (record { modulus = plan.modulus; order = plan.order; rows = table }) plan.selection
+
+-- there is a reduced list of the plan's equations, and the bytes are the text of every such list
+pub record IsTextOf (plan : Plan) (bytes : List ℕ) : Type 0 where
+  pub exists : (table : List Row) × IsTableOf plan table
+  pub every : (table : List Row) → IsTableOf plan table → bytes ≡ text_of plan table
 
 -- the sink was sent the whole text, and flushed
-abbrev pub IsSent : Option Stream → Option Stream → Request → Type 0
-IsSent before after r = (bytes : List ℕ) × IsTextOf r bytes × (after ≡ option_map (sent bytes) before)
+abbrev pub IsSent : Option Stream → Option Stream → Plan → Type 0
+IsSent before after plan = (bytes : List ℕ) × IsTextOf plan bytes × (after ≡ option_map (sent bytes) before)
 
 -- the sink was sent a prefix of the text
-abbrev pub IsPartlySent : Option Stream → Option Stream → Request → Type 0
-IsPartlySent before after r = (bytes : List ℕ) × IsTextOf r bytes × IsPrefixSent bytes before after
+abbrev pub IsPartlySent : Option Stream → Option Stream → Plan → Type 0
+IsPartlySent before after plan = (bytes : List ℕ) × IsTextOf plan bytes × IsPrefixSent bytes before after
 
 -- ---- the job
 
--- the words and the files are accepted, and ask for something of which this is true
-pub record Asks (words : List (List ℕ)) (P : Request → Type 0) (held : Held) : Type 0 where
-  pub input : JobInput
-  pub reads : ReadsJob words held (Ok input)
-  pub request : Request
-  pub asked : request_of input ≡ Some request
-  pub holds : P request
+-- the words and the files have a plan, of which this is true
+pub record HavePlan (words : List Bytes) (P : Plan → Type 0) (held : Held) : Type 0 where
+  pub plan : Plan
+  pub is : PlanOf words held (Ok plan)
+  pub holds : P plan
 
--- the words and the files are accepted, and ask for something that isn't served yet
-pub record AsksOther (words : List (List ℕ)) (held : Held) : Type 0 where
-  pub input : JobInput
-  pub reads : ReadsJob words held (Ok input)
-  pub other : request_of input ≡ None
+-- the words and the files have this first refusal, and the name is the one that its message tells
+abbrev pub AreRefusedAs : List Bytes → Status → Bytes → Held → Type 0
+AreRefusedAs words s name held = PlanOf words held (Err (record { status = s; name = name }))
 
--- the words are of another form, or the files are told and their job is another
-abbrev pub IsNotServed : List (List ℕ) → Option Held → Type 0
-IsNotServed words held = (are_served words ≡ false) ⊎ IfTold held (AsksOther words)
+-- the words and the files have this first refusal
+abbrev pub AreRefused : List Bytes → Status → Held → Type 0
+AreRefused words s held = (name : Bytes) × AreRefusedAs words s name held
 
 -- ---- the modulus
 
@@ -72,33 +78,25 @@ pub record IsDivisor (p divisor : ℕ) : Type 0 where
   pub below : divisor < p
   pub divides : divisor ∣ p
 
+-- the divisor is one of the modulus that the job names
+pub record IsDivisorIn (words : List Bytes) (divisor : ℕ) (held : Held) : Type 0 where
+  pub trees : Trees
+  pub read : TreesOf (job_file words) held (Ok trees)
+  pub outline : Outline
+  pub outlined : OutlineOf (overrides_of words) trees (Ok outline)
+  pub divides : IsDivisor outline.point.prime divisor
+
 -- the only divisors of p are 1 and p
 pub record IsPrime (p : ℕ) : Type 0 where
   pub above_1 : 1 < p
   pub only : (d : ℕ) → d ∣ p → (d ≡ 1) ⊎ (d ≡ p)
 
--- what a refusal of a reduction says
-abbrev pub IsReductionFault : ℕ → Status → Type 0
-IsReductionFault p (status.Composite fault) = IsDivisor p fault.divisor
-IsReductionFault p status.OutOfMemory = ⊤
-IsReductionFault p other = ⊥
-
 -- ---- the answers
-
--- A call was refused before anything was sent, and this is the cause. The counts of faults of the files are
--- those before the call and behind it.
-abbrev pub IsRefusal : List (List ℕ) → Option Held → ℕ → ℕ → Status → Type 0
-IsRefusal words held before now status.NotYet = IsNotServed words held
-IsRefusal words held before now (status.Input fault) = IfTold held (λ files. ReadsJob words files (Err fault)) × IsMissedIn words held before now (status.Input fault)
-IsRefusal words held before now (status.Composite fault) = IfTold held (Asks words (λ r. IsDivisor r.modulus fault.divisor))
-IsRefusal words held before now status.ReadFault = Rose before now
-IsRefusal words held before now status.OutOfMemory = ⊤
-IsRefusal words held before now other = ⊥
 
 -- What stands around a call: the words, what the files tell, and the counts of faults and what the sink tells
 -- before the call and behind it.
 pub record Around : Type 0 where
-  pub words : List (List ℕ)
+  pub words : List Bytes
   pub held : Option Held
   pub faults : ℕ
   pub faults_after : ℕ
@@ -107,12 +105,30 @@ pub record Around : Type 0 where
   pub out_faults : ℕ
   pub out_faults_after : ℕ
 
--- each answer comes by its cause
-abbrev pub HasCause : Around → Status → Type 0
-HasCause a status.Ok = IfTold a.held (Asks a.words (IsSent a.told a.told_after)) × (a.faults_after ≡ a.faults) × (a.out_faults_after ≡ a.out_faults)
-HasCause a status.WriteFault = IfTold a.held (Asks a.words (IsPartlySent a.told a.told_after)) × Rose a.out_faults a.out_faults_after
-HasCause a status.NotYet = IsRefusal a.words a.held a.faults a.faults_after status.NotYet
-HasCause a (status.Input fault) = IsRefusal a.words a.held a.faults a.faults_after (status.Input fault)
-HasCause a (status.Composite fault) = IsRefusal a.words a.held a.faults a.faults_after (status.Composite fault)
-HasCause a status.ReadFault = IsRefusal a.words a.held a.faults a.faults_after status.ReadFault
-HasCause a status.OutOfMemory = IsRefusal a.words a.held a.faults a.faults_after status.OutOfMemory
+-- the words and the files are told, and have this first refusal
+abbrev pub IsRefusal : Around → Status → Bytes → Type 0
+IsRefusal a s name = IfTold a.held (AreRefusedAs a.words s name)
+
+-- each answer comes by its cause. A message that names a list file or a family has the name.
+abbrev pub HasCause : Around → Status → Bytes → Type 0
+HasCause a status.Ok name = IfTold a.held (HavePlan a.words (IsSent a.told a.told_after)) × (a.faults_after ≡ a.faults) × (a.out_faults_after ≡ a.out_faults)
+HasCause a status.WriteFault name = IfTold a.held (HavePlan a.words (IsPartlySent a.told a.told_after)) × Rose a.out_faults a.out_faults_after
+HasCause a (status.Composite fault) name = IfTold a.held (IsDivisorIn a.words fault.divisor)
+HasCause a status.ReadFault name = Rose a.faults a.faults_after
+HasCause a status.OutOfMemory name = ⊤
+HasCause a (status.Input fault) name = IsRefusal a (status.Input fault) name
+HasCause a (status.Singular cause) name = IsRefusal a (status.Singular cause) name
+HasCause a (status.RulesClash multipliers residue) name = IsRefusal a (status.RulesClash multipliers residue) name
+HasCause a (status.TooMany what count) name = IsRefusal a (status.TooMany what count) name
+HasCause a status.NotYet name = IsRefusal a status.NotYet name
+
+-- the two statuses are equal but for the vector or the multipliers that they show
+abbrev pub IsAlike : Status → Status → Type 0
+IsAlike (status.Singular (singular.RulesOpen vector)) s = (other : List ℕ) × (s ≡ status.Singular (singular.RulesOpen other))
+IsAlike (status.Singular (singular.NotBasis family vector)) s = (other : List ℕ) × (s ≡ status.Singular (singular.NotBasis family other))
+IsAlike (status.RulesClash multipliers residue) s = (others : List ℕ) × (other : ℕ) × (s ≡ status.RulesClash others other)
+IsAlike one s = s ≡ one
+
+-- The refusal is the answer, but for want of memory and for a divisor of the modulus, which a prime doesn't have.
+abbrev pub IsAnsweredBy : Status → Status → Type 0
+IsAnsweredBy refusal s = IsAlike refusal s ⊎ ((s ≡ status.OutOfMemory) ⊎ ((divisor : _) × (s ≡ status.Composite divisor)))

@@ -1,0 +1,58 @@
+-- The steps of a run, of which the first that is refused is the last. The project's own.
+use Rattle.std.specs.Prelude.{◌≡◌, List, [], ◌∷◌, ◌++◌, Result, Ok, Err}
+use Rattle.input_schema.specs.declared.faults.InputFault.{InputFault}
+use Rattle.input_schema.specs.Readings.{Reading}
+use Rattle.job_point.specs.declared.faults.PlanError.{PlanError}
+use Rattle.job_point.specs.Steps as point
+use Rattle.kira_app.specs.declared.status.Status.{Status}
+use Rattle.kira_app.specs.declared.status.Status.TheVariants as status
+use Rattle.kira_app.specs.declared.refusal.Refusal.{Refusal}
+
+-- a value, or a refusal
+abbrev pub Answer : Type 0 → Type 0
+Answer A = Result A Refusal
+
+-- A step says which answers it may have.
+abbrev pub Step : Type 0 → Type 1
+Step A = Answer A → Type 0
+
+-- the answer is this one
+abbrev pub Is : {A : Type 0} → Answer A → Step A
+Is answer r = answer ≡ r
+
+-- what follows a value; a refusal stays
+abbrev pub After : {A B : Type 0} → Answer A → (A → Step B) → Step B
+After (Ok a) next r = next a r
+After (Err e) next r = r ≡ Err e
+
+-- one step, and then those that follow its value
+pub record Then {A B : Type 0} (first : Step A) (next : A → Step B) (r : Answer B) : Type 0 where
+  pub answer : Answer A
+  pub is : first answer
+  pub after : After answer next r
+
+-- The items of a list in order, where the step of each knows what was found before it.
+abbrev pub Each : {N A : Type 0} → (List A → N → Step A) → List A → List N → Step (List A)
+Each step found [] r = r ≡ Ok found
+Each step found (item ∷ items) r = Then (step found item) (λ a. Each step (found ++ a ∷ []) items) r
+
+-- ---- steps of the crates below
+
+-- a refusal whose message names nothing but what the status has
+abbrev pub plain : Status → Refusal
+plain s = record { status = s; name = [] }
+
+-- a reading of the input, whose fault is the refusal
+abbrev pub OfReading : {A : Type 0} → Reading A → Step A
+OfReading reading (Ok a) = reading (Ok a)
+OfReading reading (Err refusal) = (fault : InputFault) × reading (Err fault) × (refusal ≡ plain (status.Input fault))
+
+-- a step of a plan, whose error is the refusal as the function says
+abbrev pub OfPlan : {A : Type 0} → (PlanError → Refusal) → point.Step A → Step A
+OfPlan told step (Ok a) = step (Ok a)
+OfPlan told step (Err refusal) = (e : PlanError) × step (Err e) × (refusal ≡ told e)
+
+-- the answer of a call whose refusal is a status alone
+abbrev pub plainly : {A : Type 0} → Result A Status → Answer A
+plainly (Ok a) = Ok a
+plainly (Err s) = Err (plain s)

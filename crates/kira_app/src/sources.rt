@@ -1,0 +1,188 @@
+//! What the files of a job hold, loaded in their order.
+
+ghost use Rattle.std.specs.Prelude.{◌≡◌, ◌≤◌, ◌<◌, ◌^◌, All, length, map, IfOk, IfErr};
+ghost use Rattle.std.specs.Str.{IsAscii};
+ghost use Rattle.input_schema.specs.Readings as input;
+ghost use Rattle.kira_app.specs.Steps.{Is, OfReading, plainly};
+ghost use Rattle.kira_app.specs.Sources.{tree_in, list_of, TreeOf, KinematicsOf, FamiliesOf, TreesOf, ListsOf, OutlineOf, served, SourcesWith, ReadsSources};
+ghost use Rattle.kira_app.specs.Told.{Tells, Answers, IsMissed, IsPresent};
+
+use crate::trees::Trees;
+use crate::{Refusal, Status};
+use job_plan::{File, InputFault, InputKind, Outline, Override, PlanError};
+use kira_outside::{Files, LoadFault};
+use std::alloc::Global;
+use std::marker::Model;
+use yaml_text::{Text, Tree, YamlError};
+
+/// The most bytes that a file may have.
+const MOST_BYTES: usize = 1 << 24;
+
+/// What the files of a job hold: the trees of its three files, and the texts of its list files.
+#[derive(Drop)]
+pub struct Sources {
+    pub(crate) trees: Trees,
+    pub(crate) lists: Vec<Vec<u8>>,
+}
+
+impl Model for Sources {
+    ghost use Rattle.kira_app.specs.Sources.{Sources as SourcesValue, sources_code};
+
+    ghost Value = { SourcesValue };
+
+    ghost coded = { sources_code };
+
+    ghost use Rattle.kira_app.specs.KeptSources.{shown, IsKept};
+
+    ghost view = { shown };
+
+    ghost invariant = { IsKept };
+}
+
+// The status of a fault of an input.
+fn input_fault(file: File, line: u32, kind: InputKind) -> Status
+    ensures { result ≡ Status.Input (record { file = file; line = line; kind = kind }) }
+{
+    Status::Input(InputFault { file, line, kind })
+}
+
+// The tree of a file with these bytes.
+fn parse(alloc: Global, file: File, bytes: &[u8]) -> Result<Tree, Status>
+    ensures tree { Answers (OfReading (input.Is (tree_in file bytes.now))) (plainly result) }
+    ensures present { IfErr result IsPresent }
+{
+    if bytes.len() > MOST_BYTES {
+        return Err(input_fault(file, 0, InputKind::TooLong));
+    }
+    match yaml_text::read(alloc, bytes) {
+        Ok(tree) => Ok(tree),
+        Err(YamlError::Fault(fault)) => {
+            Err(input_fault(file, fault.line, InputKind::Yaml(fault.kind)))
+        }
+        Err(YamlError::OutOfMemory) => Err(Status::OutOfMemory),
+    }
+}
+
+// Loads a file of this name, and reads its tree. One byte more than it may have is asked for.
+fn load_tree<F: Files>(alloc: Global, files: &mut F, file: File, name: &str) -> Result<Tree, Status>
+    ensures tree { Tells (F.held files.old) (F.faults files.old) (F.faults files.new) (TreeOf file name.now) (plainly result) }
+    ensures missing { IfErr result (IsMissed (F.held files.old) (F.faults files.old) (F.faults files.new)) }
+    ensures same { F.held files.new ≡ F.held files.old }
+{
+    match files.load(alloc, name, MOST_BYTES + 1) {
+        Ok(bytes) => parse(alloc, file, &bytes),
+        Err(LoadFault::Missing) => Err(input_fault(file, 0, InputKind::Missing)),
+        Err(LoadFault::Failed) => Err(Status::ReadFault),
+        Err(LoadFault::OutOfMemory) => Err(Status::OutOfMemory),
+    }
+}
+
+// Loads the last of the three files.
+fn load_kinematics<F: Files>(
+    alloc: Global,
+    files: &mut F,
+    jobs: Tree,
+    families: Tree,
+) -> Result<Trees, Status>
+    ensures trees { Tells (F.held files.old) (F.faults files.old) (F.faults files.new) (KinematicsOf jobs families) (plainly result) }
+    ensures missing { IfErr result (IsMissed (F.held files.old) (F.faults files.old) (F.faults files.new)) }
+    ensures same { F.held files.new ≡ F.held files.old }
+{
+    let kinematics = load_tree(alloc, files, File::Kinematics, "config/kinematics.yaml")?;
+    Ok(Trees {
+        jobs,
+        families,
+        kinematics,
+    })
+}
+
+// Loads the files behind the job file.
+fn load_families<F: Files>(alloc: Global, files: &mut F, jobs: Tree) -> Result<Trees, Status>
+    ensures trees { Tells (F.held files.old) (F.faults files.old) (F.faults files.new) (FamiliesOf jobs) (plainly result) }
+    ensures missing { IfErr result (IsMissed (F.held files.old) (F.faults files.old) (F.faults files.new)) }
+    ensures same { F.held files.new ≡ F.held files.old }
+{
+    let families = load_tree(alloc, files, File::Families, "config/integralfamilies.yaml")?;
+    load_kinematics(alloc, files, jobs, families)
+}
+
+// Loads the three files in order, each only where the one before it has a tree.
+fn load_trees<F: Files>(alloc: Global, files: &mut F, name: &str) -> Result<Trees, Status>
+    ensures trees { Tells (F.held files.old) (F.faults files.old) (F.faults files.new) (TreesOf name.now) (plainly result) }
+    ensures missing { IfErr result (IsMissed (F.held files.old) (F.faults files.old) (F.faults files.new)) }
+    ensures same { F.held files.new ≡ F.held files.old }
+{
+    let jobs = load_tree(alloc, files, File::Jobs, name)?;
+    load_families(alloc, files, jobs)
+}
+
+/// The outline of the trees and of the words that override their values.
+pub(crate) fn outline(
+    alloc: Global,
+    trees: &Trees,
+    overrides: &[Override],
+) -> Result<Outline, Status>
+    ensures { Answers (OutlineOf overrides.now trees.now) (plainly result) }
+{
+    match job_plan::outline(
+        alloc,
+        &trees.families,
+        &trees.kinematics,
+        &trees.jobs,
+        overrides,
+    ) {
+        Ok(outline) => Ok(outline),
+        Err(PlanError::Input(fault)) => Err(Status::Input(fault)),
+        Err(PlanError::OutOfMemory) => Err(Status::OutOfMemory),
+        Err(_) => unreachable!(),
+    }
+}
+
+// That a job is served: it names no symmetry.
+fn served(outline: &Outline) -> Result<(), Status>
+    ensures { plainly result ≡ served outline.now }
+{
+    if outline.has_symmetry() {
+        Err(Status::NotYet)
+    } else {
+        Ok(())
+    }
+}
+
+/// A refusal with this name in its message; want of memory, where the name can't be copied.
+pub(crate) fn named(alloc: Global, status: Status, name: &str) -> Refusal
+    requires ascii { IsAscii name.now }
+    requires short { length name.now < 2 ^ 32 }
+    ensures { (result ≡ record { status = status; name = name.now }) ⊎ (result.status ≡ Status.OutOfMemory) }
+{
+    match Text::new(alloc, name) {
+        Ok(name) => Refusal { status, name },
+        Err(_) => Refusal::plain(alloc, Status::OutOfMemory),
+    }
+}
+
+// Loads the list file with this number and name.
+fn load_list<F: Files>(
+    alloc: Global,
+    files: &mut F,
+    number: u32,
+    name: &str,
+) -> Result<Vec<u8>, Refusal>
+    requires ascii { IsAscii name.now }
+    requires short { length name.now < 2 ^ 32 }
+    ensures list { Tells (F.held files.old) (F.faults files.old) (F.faults files.new) (λ held. Is (list_of number name.now held)) (shown result) }
+    ensures short { IfOk result (λ bytes. length bytes.items ≤ 2 ^ 24) }
+    ensures missing { IfErr result (λ refusal. IsMissed (F.held files.old) (F.faults files.old) (F.faults files.new) refusal.status) }
+    ensures same { F.held files.new ≡ F.held files.old }
+{
+    let list = File::List(number);
+    match files.load(alloc, name, MOST_BYTES + 1) {
+        Ok(bytes) if bytes.len() <= MOST_BYTES => Ok(bytes),
+        Ok(_) => Err(named(alloc, input_fault(list, 0, InputKind::TooLong), name)),
+        Err(LoadFault::Missing) => {
+            Err(named(alloc, input_fault(list, 0, InputKind::Missing), name))
+        }
+        Err(LoadFault::Failed) => Err(Refusal::plain(alloc, Status::ReadFault)),
+        Err(LoadFault::OutOfMemory) => Err(Refusal::plain(alloc, Status::OutOfMemory)),
+    }
+}
