@@ -4,13 +4,18 @@ use Rattle.input_schema.specs.declared.faults.SchemaError.{SchemaError}
 use Rattle.input_schema.specs.declared.faults.SchemaError.TheVariants as schema_error
 use Rattle.input_schema.specs.Readings.{Reading}
 use Rattle.job_point.specs.declared.faults.PlanError.{PlanError}
-use Rattle.job_point.specs.declared.faults.PlanError.TheVariants.{Input, Singular, RulesClash, Composite, OutOfMemory}
+use Rattle.job_point.specs.declared.faults.PlanError.TheVariants.{Input, Singular, RulesClash, Composite, TooMany, OutOfMemory}
 use Rattle.job_plan.specs.Outlines.{Outline}
 
 -- the fault of a file or of a word as a fault of the input; want of memory stays
 abbrev pub plan_error : SchemaError → PlanError
 plan_error (schema_error.Fault fault) = Input fault
 plan_error schema_error.OutOfMemory = OutOfMemory
+
+-- the value of the answer, or its fault
+abbrev pub plan_answer : {A : Type 0} → Result A SchemaError → Result A PlanError
+plan_answer (Ok a) = Ok a
+plan_answer (Err e) = Err (plan_error e)
 
 -- the fault of the reading, or want of memory, and nothing else
 abbrev pub OutlineRefuses : Reading Outline → PlanError → Type 0
@@ -19,6 +24,7 @@ OutlineRefuses reading OutOfMemory = Unit {0}
 OutlineRefuses reading (Singular cause) = ⊥
 OutlineRefuses reading (RulesClash multipliers residue) = ⊥
 OutlineRefuses reading (Composite divisor) = ⊥
+OutlineRefuses reading (TooMany what count) = ⊥
 
 -- the value of the reading, or why there is none
 abbrev pub OutlineAnswers : Reading Outline → Result Outline PlanError → Type 0

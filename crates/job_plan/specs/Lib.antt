@@ -1,7 +1,11 @@
+pub mod Shapes
 pub mod Outlines
 pub mod KeptOutline
 pub mod Faults
 pub mod Readings
+pub mod ListFiles
+pub mod Gathering
+pub mod Steps
 pub mod Plans
 pub mod KeptPlan
 pub mod Laws

@@ -1,8 +1,10 @@
-//! Joins what the files of a job and the words say, in the order in which they are read, and plans the job at
-//! its numeric point.
+//! Joins what the files of a job and the words say, in the order in which they are read, and plans the job: its
+//! seeds and its selection, what it says at its numeric point, and its equations.
 #![tactic(auto)]
 
+mod gathering;
 mod laws;
+mod list_files;
 mod outlines;
 mod parts;
 #[cfg(test)]
@@ -10,13 +12,14 @@ mod plan_tests;
 mod planner;
 mod plans;
 mod reader;
+mod terms;
 #[cfg(test)]
 mod tests;
 
 pub use input_schema::{File, InputFault, InputKind};
-pub use job_point::{PlanError, Singular};
+pub use job_point::{Excess, PlanError, Singular};
 pub use job_schema::{Override, read_override};
-pub use laws::outline_is_single;
+pub use laws::{outline_is_single, plan_is_single};
 pub use outlines::Outline;
 pub use planner::plan;
 pub use plans::Plan;

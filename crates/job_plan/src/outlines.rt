@@ -34,7 +34,7 @@ impl Model for Outline {
 
 impl Outline {
     ghost use Rattle.std.specs.Prelude.{◌≡◌, ◌<◌, ◌≤◌, [], length, map, slice_index_or};
-    ghost use Rattle.job_plan.specs.Outlines.{IsSound};
+    ghost use Rattle.job_plan.specs.Outlines.{IsSound, has_symmetry};
     ghost use Rattle.job_plan.specs.Readings.{names_of};
 
     /// How many list files the job selects from, at most 16.
@@ -67,6 +67,14 @@ impl Outline {
         ensures { result.now ≡ slice_index_or (names_of self.now.families) family [] }
     {
         self.families.as_slice()[family as usize].name.as_str()
+    }
+
+    /// Whether some family names a symmetry.
+    pub fn has_symmetry(&self) -> bool
+        ensures { result ≡ has_symmetry self.now }
+    {
+        let families = self.families.as_slice();
+        families.iter().any(|family| family.symmetries.len() > 0)
     }
 
     /// The modulus, and the values of the dimension and of the invariants but the one that is replaced by 1.

@@ -1,10 +1,14 @@
 //! Makes the plan of a job from its outline.
 
-ghost use Rattle.std.specs.Prelude.{◌≡◌, ◌<◌, ◌≤◌, All, IfOk, length};
+ghost use Rattle.std.specs.Prelude.{◌≡◌, ◌<◌, ◌≤◌, ◌^◌, All, IfOk, length, map};
 ghost use Rattle.std.specs.List.{AllZip};
+ghost use Rattle.integral_index.specs.declared.Order.TheVariants.{Standard};
+ghost use Rattle.seed_sets.specs.Seeds.{Ascends};
+ghost use Rattle.job_equations.specs.Equations.{IsSeedOf};
 ghost use Rattle.job_point.specs.Steps.{Meets};
-ghost use Rattle.job_plan.specs.Plans.{AreZerosOf, IsPlanOf, IsPlan};
+ghost use Rattle.job_plan.specs.Plans.{AreZerosOf, IsOfFamily, IsPlanOf, IsPlan};
 
+use crate::gathering::{Integrals, integrals_of};
 use crate::outlines::Outline;
 use crate::parts::names_of;
 use crate::plans::Plan;
@@ -27,15 +31,23 @@ fn zeros_of(alloc: Global, families: &[Family]) -> Result<Items<ZeroSectors>, Ou
     Ok(zeros)
 }
 
-/// The plan of these families with these values at the numeric point.
-fn plan_of(alloc: Global, families: &[Family], at: AtPoint) -> Result<Plan, OutOfMemory>
+/// The plan of these families with these integrals and these values at the numeric point.
+fn plan_of(
+    alloc: Global,
+    families: &[Family],
+    integrals: Integrals,
+    at: AtPoint,
+) -> Result<Plan, OutOfMemory>
     requires few { length families.now ≤ 16 }
     requires bases { length at.bases ≡ length families.now }
     requires dimension { at.dimension < at.modulus }
     requires moduli { All (λ basis. basis.point.modulus ≡ at.modulus) at.bases }
-    ensures { IfOk result (IsPlanOf families.now at) }
+    requires seeds { All (IsSeedOf at.bases) integrals.seeds }
+    requires selection { All (IsOfFamily at.bases) integrals.selection }
+    requires ascends { Ascends Standard integrals.selection }
+    ensures { IfOk result (IsPlanOf families.now integrals at) }
 {
-    let names = Items::from_vec(names_of(alloc, families)?);
+    let names = names_of(alloc, families)?;
     let zeros = zeros_of(alloc, families)?;
     Ok(Plan {
         modulus: at.modulus,
@@ -44,20 +56,33 @@ fn plan_of(alloc: Global, families: &[Family], at: AtPoint) -> Result<Plan, OutO
         names,
         zeros,
         bases: at.bases,
+        seeds: integrals.seeds,
+        selection: integrals.selection,
     })
 }
 
-/// The plan of a job: what its outline says at the numeric point, in the standard order of the integrals.
+/// The plan of a job whose list files have these texts, of which there is one for each list file of the
+/// outline, of at most 2^24 bytes: its seeds and its selection, and what the outline says at the numeric
+/// point, in the standard order of the integrals.
 ///
 /// # Errors
 ///
-/// The first that applies, as `job_point::at_point` says: ZeroDivisor or Composite for the invariants in the
-/// order of their file, for the dimension and for the values of the rules; RulesClash, RulesOpen or Composite
-/// for the rules; then ZeroDivisor, NotBasis or Composite for each family. `OutOfMemory` where memory was
-/// refused; it may go before any of them. `Input` never comes.
-pub fn plan(alloc: Global, outline: &Outline) -> Result<Plan, PlanError>
-    ensures plan { Meets (IsPlan outline.now) result }
+/// The first that applies; `IsPlan` of `specs/Plans.antt` says which it is.
+/// - For each list file in order: Input with the first line at fault, as `list_schema::read_list` says it.
+/// - TooMany: more than 2^17 seeds of the specs under `reduce`, told as 2^17 + 1; then more than 2^17
+///   selected integrals, told as 2^17 + 1; then more than 2^24 terms, as `job_equations::term_bound` counts
+///   them, told as they are.
+/// - What `job_point::at_point` says: ZeroDivisor or Composite for the invariants in the order of their file,
+///   for the dimension and for the values of the rules; RulesClash, RulesOpen or Composite for the rules; then
+///   ZeroDivisor, NotBasis or Composite for each family.
+///
+/// `OutOfMemory` where memory was refused; it may go before any of them.
+pub fn plan(alloc: Global, outline: &Outline, lists: &[Vec<u8>]) -> Result<Plan, PlanError>
+    requires texts { length lists.now ≡ length outline.now.select.files }
+    requires short { All (λ text. length text.items ≤ 2 ^ 24) lists.now }
+    ensures plan { Meets (IsPlan outline.now (map (λ text. text.items) lists.now)) result }
 {
+    let integrals = integrals_of(alloc, outline, lists)?;
     let families = outline.families();
     let at = at_point(
         alloc,
@@ -65,5 +90,5 @@ pub fn plan(alloc: Global, outline: &Outline) -> Result<Plan, PlanError>
         families,
         outline.numeric_point(),
     )?;
-    Ok(plan_of(alloc, families, at)?)
+    Ok(plan_of(alloc, families, integrals, at)?)
 }

@@ -2,12 +2,14 @@
 
 ghost use Rattle.std.specs.Prelude.{◌≡◌, ◌≤◌, All, IfOk, length, map};
 ghost use Rattle.input_schema.specs.Readings.{Answers, Gives};
+ghost use Rattle.seed_sets.specs.Seeds.{IsFitting};
 ghost use Rattle.kinematics_schema.specs.Sound as kinematics_file;
-ghost use Rattle.family_schema.specs.Sound as family_file;
 ghost use Rattle.job_schema.specs.Jobs.{jobs};
 ghost use Rattle.job_schema.specs.Overrides.{numeric_point};
 ghost use Rattle.job_plan.specs.Faults as spec;
 ghost use Rattle.job_plan.specs.Faults.{OutlineAnswers};
+ghost use Rattle.job_plan.specs.Outlines.{AreFamilies, IsSelection};
+ghost use Rattle.job_plan.specs.Shapes.{shapes_of};
 ghost use Rattle.job_plan.specs.Readings.{names_of, frame_of, ReadsJob, ReadsOutline};
 
 use crate::outlines::Outline;
@@ -31,9 +33,10 @@ fn job_of(
 ) -> Result<Job, SchemaError>
     requires few { length families.now ≤ 16 }
     requires widths { All (λ family. family.width ≤ 20) families.now }
+    ensures reduce { IfOk result (λ job. All (IsFitting (shapes_of families.now)) job.reduce) }
+    ensures select { IfOk result (λ job. IsSelection families.now job.select) }
     ensures job { Gives (jobs (names_of families.now) (map frame_of families.now) parameters.now tree.now) result }
     ensures settings { IfOk result (λ job. length job.point.settings ≡ length parameters.now) }
-    ensures few_files { IfOk result (λ job. length job.select.files ≤ 16) }
 {
     let names = names_of(alloc, families)?;
     let frames = frames_of(alloc, families)?;
@@ -63,9 +66,7 @@ fn read_job(
     words: &[Override],
 ) -> Result<Outline, SchemaError>
     requires kinematics_sound { kinematics_file.IsSound kinematics }
-    requires families_sound { All (family_file.IsSound kinematics) families }
-    requires few { length families ≤ 16 }
-    requires widths { All (λ family. family.width ≤ 20) families }
+    requires families_sound { AreFamilies kinematics families }
     ensures { Answers (ReadsJob kinematics families tree.now words.now) result }
 {
     let parameters = parameters_of(alloc, &kinematics)?;
@@ -86,7 +87,7 @@ fn read_job(
 }
 
 /// The fault of a file or of a word as a fault of the input.
-fn plan_error(refused: SchemaError) -> PlanError
+pub(crate) fn plan_error(refused: SchemaError) -> PlanError
     ensures { result ≡ spec.plan_error refused }
 {
     match refused {

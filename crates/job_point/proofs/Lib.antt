@@ -1,4 +1,4 @@
-mod StepLemmas
+pub mod StepLemmas
 mod ListLemmas
 mod RuleLemmas
 mod SingleLemmas

@@ -3,7 +3,7 @@ use Rattle.std.proofs.Common.{◌≡◌, ℕ, ◌+◌, ◌<◌, ◌≤◌, List,
 use Rattle.std.specs.Result.{IsErrAnd}
 use Rattle.std.proofs.lemmas.List.{at_drop_more, at_drop_all, get_or_default}
 use Rattle.job_point.specs.declared.faults.PlanError.{PlanError}
-use Rattle.job_point.specs.declared.faults.PlanError.TheVariants.{Input, Singular, RulesClash, Composite, OutOfMemory}
+use Rattle.job_point.specs.declared.faults.PlanError.TheVariants.{Input, Singular, RulesClash, Composite, TooMany, OutOfMemory}
 use Rattle.job_point.specs.Steps.{Answer, Step, Is, After, Then, Each, Refuses, Meets, IsSingle}
 
 -- ---- one step
@@ -14,6 +14,7 @@ refuses_as step other (Input f) go h = go h
 refuses_as step other (Singular f) go h = go h
 refuses_as step other (RulesClash m r) go h = go h
 refuses_as step other (Composite f) go h = go h
+refuses_as step other (TooMany what count) go h = go h
 refuses_as step other OutOfMemory go h = tt
 
 -- what `?` answers for a fault of a step

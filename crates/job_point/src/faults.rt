@@ -11,6 +11,7 @@ use matrix_elimination::Vector;
 use out_of_memory::OutOfMemory;
 use propagators::BasisFault;
 use std::alloc::{AllocError, AllocFailed};
+use std::fmt;
 use thiserror::Error;
 
 /// What has no value, or not just one, at the numeric point. The project's own.
@@ -30,6 +31,27 @@ pub enum Singular {
     NotBasis { family: u32, vector: Vector },
 }
 
+/// What a job has too many of. The limits are the project's own.
+#[derive(Clone, Copy, Debug, PartialEq, Eq, Drop)]
+pub enum Excess {
+    /// The seeds under `reduce`: more than 2^17.
+    Seeds,
+    /// The selected integrals: more than 2^17.
+    Selected,
+    /// The terms of the seeded equations, as their bound counts them: more than 2^24.
+    Terms,
+}
+
+impl fmt::Display for Excess {
+    fn fmt<W: fmt::Write>(&self, f: &mut fmt::Formatter<W>) -> fmt::Result {
+        match self {
+            Excess::Seeds => write!(f, "more than 131072 seeds"),
+            Excess::Selected => write!(f, "more than 131072 selected integrals"),
+            Excess::Terms => write!(f, "more than 16777216 terms"),
+        }
+    }
+}
+
 /// Why a job has no plan, or none was found. The project's own.
 #[derive(Debug, Drop, Error)]
 pub enum PlanError {
@@ -46,6 +68,10 @@ pub enum PlanError {
     /// A number that has to be inverted has no inverse, so the modulus isn't prime: a divisor of it.
     #[error(transparent)]
     Composite(Composite),
+    /// There are too many of these: the count is one more than allowed for seeds and for selected
+    /// integrals, which are counted up to it, and the exact number for terms.
+    #[error("{what}")]
+    TooMany { what: Excess, count: u64 },
     /// Memory was refused.
     #[error("out of memory")]
     OutOfMemory,

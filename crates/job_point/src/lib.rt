@@ -10,7 +10,7 @@ mod ratios;
 mod rules;
 mod values;
 
-pub use faults::{PlanError, Singular};
+pub use faults::{Excess, PlanError, Singular};
 pub use laws::points_are_single;
 pub use points::{AtPoint, at_point};
 

@@ -45,7 +45,7 @@ pub struct AtPoint {
 /// - For each family: ZeroDivisor or Composite for each mass, and then NotBasis or Composite, as
 ///   `propagators::family` says.
 ///
-/// `OutOfMemory` where memory was refused; it may go before any of them. `Input` never comes.
+/// `OutOfMemory` where memory was refused; it may go before any of them. `Input` and `TooMany` never come.
 pub fn at_point(
     alloc: Global,
     kinematics: &Kinematics,

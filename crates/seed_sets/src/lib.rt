@@ -75,5 +75,23 @@ pub fn list(
     Ok(found)
 }
 
+/// These integrals, ascending in the order, each once. Where there are more than `most` different ones the
+/// answer is `TooMany`, as `list` says it. It takes no memory.
+pub fn ascending(
+    found: Vec<Integral>,
+    order: Order,
+    most: u64,
+) -> Result<Vec<Integral>, SeedFault>
+    requires { most ≤ 2 ^ 17 }
+    ensures ascends { IfOk result (λ kept. Ascends order kept.items) }
+    ensures members { IfOk result (λ kept. (x : IntegralValue) → Contains kept.items x ↔ Contains found.items x) }
+    ensures few { IfOk result (λ kept. length kept.items ≤ most) }
+    ensures many { IfErr result (IsCause order most (Contains found.items)) }
+{
+    let mut kept = found;
+    settle(&mut kept, Limit { order, most })?;
+    Ok(kept)
+}
+
 #[cfg(test)]
 mod tests;
