@@ -2,3 +2,5 @@ pub mod StepLemmas
 mod ListLemmas
 mod RuleLemmas
 mod SingleLemmas
+mod Agreement
+mod Divisors

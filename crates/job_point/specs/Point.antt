@@ -47,10 +47,15 @@ point_error_of (point_fault.RulesOpen vector) = plan_error.Singular (singular.Ru
 point_error_of (point_fault.Composite fault) = plan_error.Composite fault
 point_error_of point_fault.OutOfMemory = plan_error.OutOfMemory
 
+-- the vector shows that the rules leave a product open, so that no table is the only one that meets them
+pub record LeaveOpen (p externals : ℕ) (rules : List Rule) (vector : List ℕ) : Type 0 where
+  pub open : IsRulesOpen p externals rules vector
+  pub none : (products : List ℕ) → IsPointOf p externals rules products → ⊥
+
 -- why rules have no point, or none was found
 abbrev pub HasPointFault : ℕ → ℕ → List Rule → PlanError → Type 0
 HasPointFault p externals rules (plan_error.RulesClash multipliers residue) = IsRulesClash p externals rules multipliers residue
-HasPointFault p externals rules (plan_error.Singular (singular.RulesOpen vector)) = IsRulesOpen p externals rules vector
+HasPointFault p externals rules (plan_error.Singular (singular.RulesOpen vector)) = LeaveOpen p externals rules vector
 HasPointFault p externals rules (plan_error.Composite fault) = IsProperDivisor p fault.divisor
 HasPointFault p externals rules _ = ⊥
 

@@ -1,6 +1,6 @@
 //! Laws of what a job says at its numeric point.
 
-ghost use Rattle.job_point.specs.Laws.{PointsAreSingle};
+ghost use Rattle.job_point.specs.Laws.{PointsAreSingle, PointsAgree, PointsNameDivisors};
 
 /// A job says one thing at most at its numeric point, modulo a number above 1. It does nothing when it
 /// runs.
@@ -8,4 +8,16 @@ pub fn points_are_single()
     ensures { PointsAreSingle }
 {
     kinematics::values_are_unique();
+}
+
+/// Any two answers of what a job says at its numeric point are the same, modulo a number above 1: the same
+/// value, or the same fault but for the vector or the multipliers that show it; unless one of them names a
+/// divisor of the modulus, which lies between 1 and it. So modulo a prime there is one answer. It does
+/// nothing when it runs.
+pub fn points_agree()
+    ensures agree { PointsAgree }
+    ensures divisors { PointsNameDivisors }
+{
+    kinematics::values_are_unique();
+    kinematics::refused_rules_have_no_point();
 }

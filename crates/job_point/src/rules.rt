@@ -11,7 +11,7 @@ use crate::faults::{PlanError, point_error};
 use crate::values::value_at;
 use field_word::Modulus;
 use input_schema::File;
-use kinematics::{Momentum, Point, Rule, point};
+use kinematics::{Momentum, Point, Rule, point, refused_rules_have_no_point};
 use kinematics_schema::Kinematics;
 use sqlite_items::Items;
 use std::alloc::Global;
@@ -67,6 +67,7 @@ fn point_of(
     requires rules { All (IsRule modulus.now externals) rules.now }
     ensures { Meets (IsPointFor modulus.now externals rules.now) result }
 {
+    refused_rules_have_no_point();
     match point(alloc, rules, externals, modulus) {
         Ok(point) => Ok(point),
         Err(fault) => Err(point_error(fault)),

@@ -1,0 +1,161 @@
+-- A composite modulus is named by its divisors alone: the values of expressions are residues, so that a common
+-- divisor of one and the modulus is less than the modulus.
+use Rattle.std.proofs.Common.{◌≡◌, ◌≢◌, ◌<◌, ◌≤◌, ⊤, ℕ, zero, suc, List, [], ◌∷◌, ◌++◌, length, All, Ok, Err, Some, None, Option, refl, sym, ap, ◌∙◌, subst, arith, get_or, slice_index, take, drop}
+use Rattle.std.specs.Int.{IsGcd, ◌∣◌}
+use Rattle.std.proofs.Math.Nat.{mod-lt}
+use Rattle.std.proofs.lemmas.Nat.Gcd.{le_of_dvd}
+use Rattle.std.proofs.lemmas.List.Elements.{All-push, All-append, All-take, All-drop, All-get_or}
+use Rattle.matrix_elimination.specs.Fault.{IsProperDivisor}
+use Rattle.kinematics.specs.declared.faults.ValueFault.TheVariants as value_fault
+use Rattle.kinematics.specs.Points.{Point}
+use Rattle.kinematics.specs.Trees.{Tree, number, place, negative, sum, difference, product, quotient, power}
+use Rattle.kinematics.specs.Evaluation.{Outcome, After, IsQuotient, HasOutcome}
+use Rattle.kinematics.specs.declared.rules.Rule.{Rule}
+use Rattle.propagators.specs.declared.denominators.Denominator.{Denominator}
+use Rattle.input_schema.specs.declared.faults.File.{File}
+use Rattle.kinematics_schema.specs.declared.content.Kinematics.{Kinematics}
+use Rattle.family_schema.specs.declared.content.Family.{Family}
+use Rattle.job_schema.specs.declared.points.Setting.{Setting}
+use Rattle.job_point.specs.declared.faults.PlanError.{PlanError}
+use Rattle.job_point.specs.declared.faults.PlanError.TheVariants.{Composite}
+use Rattle.job_point.specs.declared.values.Values.{Values}
+use Rattle.job_point.specs.Steps as step
+use Rattle.job_point.specs.Steps.{Answer, Step, Is, Then, Each}
+use Rattle.job_point.specs.Values.{answer_of, with_symbol, IsValueAt, AreSettingsAt, AreValuesAt}
+use Rattle.job_point.specs.Point.{AreRulesAt, IsPointFor, IsPointAt, AreDenominatorsAt, IsBasisFor, IsBasisAt}
+use Rattle.job_point.specs.Agreement.{NamesDivisorsAlone}
+use Rattle.job_point.specs.Laws.{PointsNameDivisors}
+
+-- ---- expressions
+
+-- a value is a residue, and a divisor that is named is one of the modulus
+abbrev IsSound : ℕ → Outcome → Type 0
+IsSound p (Ok v) = v < p
+IsSound p (Err (value_fault.ZeroDivisor at)) = ⊤
+IsSound p (Err (value_fault.Composite c)) = IsProperDivisor p c.divisor
+
+proper : (p y d : ℕ) → y < p → y ≢ 0 → IsGcd y p d → d ≢ 1 → IsProperDivisor p d
+proper p y d below some g more =
+    let most : d ≤ y = le_of_dvd (omega (arith, some)) g.0 in
+    let not_0 : d ≢ 0 = λ none. ? in
+    record { above = omega (arith, more, not_0); below = omega (arith, most, below); divides = g.1 }
+
+sound_after : (p : ℕ) (a r : Outcome) (P : ℕ → Outcome → Type 0) → IsSound p a → ((x : ℕ) (q : Outcome) → x < p → P x q → IsSound p q) → After a P r → IsSound p r
+sound_after p (Ok x) r P h go k = go x r h k
+sound_after p (Err f) r P h go k = subst (IsSound p) (sym k) h
+
+sound_quotient : (p at x y : ℕ) (r : Outcome) → 0 < p → y < p → IsQuotient p at x y r → IsSound p r
+sound_quotient p at x y (Ok v) some below h = subst (λ n. n < p) (sym h.2) (mod-lt _ some)
+sound_quotient p at x y (Err (value_fault.ZeroDivisor a)) some below h = tt
+sound_quotient p at x y (Err (value_fault.Composite c)) some below h = proper p y c.divisor below h.0 h.1 h.2
+
+at_most : (p : ℕ) (rs : List ℕ) (i : ℕ) → 0 < p → All (λ r. r < p) rs → slice_index rs i < p
+at_most p rs i some below = ?
+
+residue : (p n : ℕ) (r : Outcome) → 0 < p → r ≡ Ok (n % p) → IsSound p r
+residue p n r some e = subst (IsSound p) (sym e) (mod-lt n some)
+
+sound : (p : ℕ) (rs : List ℕ) (t : Tree) (r : Outcome) → 0 < p → All (λ v. v < p) rs → HasOutcome p rs t r → IsSound p r
+sound p rs (number n) r some below h = residue p n r some h
+sound p rs (place i) r some below h = subst (IsSound p) (sym h) (at_most p rs i some below)
+sound p rs (negative t) r some below h = sound_after p h.0 r _ (sound p rs t h.0 some below h.1) (λ x q low e. residue p _ q some e) h.2
+sound p rs (sum t u) r some below h =
+    sound_after p h.0 r _ (sound p rs t h.0 some below h.1) (λ x q low k.
+    sound_after p k.0 q _ (sound p rs u k.0 some below k.1) (λ y o less e. residue p _ o some e) k.2) h.2
+sound p rs (difference t u) r some below h =
+    sound_after p h.0 r _ (sound p rs t h.0 some below h.1) (λ x q low k.
+    sound_after p k.0 q _ (sound p rs u k.0 some below k.1) (λ y o less e. residue p _ o some e) k.2) h.2
+sound p rs (product t u) r some below h =
+    sound_after p h.0 r _ (sound p rs t h.0 some below h.1) (λ x q low k.
+    sound_after p k.0 q _ (sound p rs u k.0 some below k.1) (λ y o less e. residue p _ o some e) k.2) h.2
+sound p rs (quotient at t u) r some below h =
+    sound_after p h.0 r _ (sound p rs t h.0 some below h.1) (λ x q low k.
+    sound_after p k.0 q _ (sound p rs u k.0 some below k.1) (λ y o less e. sound_quotient p at x y o some less e) k.2) h.2
+sound p rs (power t n) r some below h = sound_after p h.0 r _ (sound p rs t h.0 some below h.1) (λ x q low e. residue p _ q some e) h.2
+
+-- ---- steps
+
+-- what every value of the step is
+abbrev Yields : {A : Type 0} → (A → Type 0) → Step A → Type 0
+Yields {A} P step = (a : A) → step (Ok a) → P a
+
+value_below : (p : ℕ) (residues : List ℕ) (file : File) (line : ℕ) (tree : Tree) → 0 < p → All (λ v. v < p) residues → Yields (λ v. v < p) (IsValueAt p residues file line tree)
+value_below p residues file line tree some below v h = by h.outcome (sound p residues tree h.outcome some below h.is) h.told
+  where
+    by : (o : Outcome) → IsSound p o → answer_of file line o ≡ Ok v → v < p
+    by (Ok w) low e = ?
+    by (Err f) low e = ?
+
+value_names : (p : ℕ) (residues : List ℕ) (file : File) (line : ℕ) (tree : Tree) → 0 < p → All (λ v. v < p) residues → NamesDivisorsAlone p (IsValueAt p residues file line tree)
+value_names p residues file line tree some below fault h = by h.outcome (sound p residues tree h.outcome some below h.is) h.told
+  where
+    by : (o : Outcome) → IsSound p o → answer_of file line o ≡ Err (Composite fault) → IsProperDivisor p fault.divisor
+    by (Ok w) low e = ?
+    by (Err (value_fault.ZeroDivisor at)) low e = ?
+    by (Err (value_fault.Composite c)) low e = ?
+
+after_names : {A B : Type 0} (p : ℕ) (first : Step A) (next : A → Step B) → NamesDivisorsAlone p first → ((a : A) → first (Ok a) → NamesDivisorsAlone p (next a)) →
+    (x : Answer A) (fault : _) → first x → step.After x next (Err (Composite fault)) → IsProperDivisor p fault.divisor
+after_names p first next one more (Ok a) fault h k = more a h fault k
+after_names {A} p first next one more (Err e) fault h k = ?
+
+then_names : {A B : Type 0} (p : ℕ) (first : Step A) (next : A → Step B) → NamesDivisorsAlone p first → ((a : A) → first (Ok a) → NamesDivisorsAlone p (next a)) → NamesDivisorsAlone p (Then first next)
+then_names p first next one more fault h = after_names p first next one more h.answer fault h.is h.after
+
+is_names : {A : Type 0} (p : ℕ) (a : A) → NamesDivisorsAlone p (Is (Ok a))
+is_names p a fault h = ?
+
+each_names : {N A : Type 0} (p : ℕ) (step : List A → N → Step A) → ((found : List A) (item : N) → NamesDivisorsAlone p (step found item)) → (found : List A) (items : List N) → NamesDivisorsAlone p (Each step found items)
+each_names p step one found [] fault h = ?
+each_names p step one found (item ∷ items) fault h =
+    then_names p (step found item) (λ a. Each step (found ++ a ∷ []) items) (one found item) (λ a is. each_names p step one (found ++ a ∷ []) items) fault h
+
+each_yields : {N A : Type 0} (P : A → Type 0) (step : List A → N → Step A) → ((found : List A) (item : N) → Yields P (step found item)) → (found : List A) (items : List N) → All P found → Yields (All P) (Each step found items)
+each_yields P step one found [] all r h = ?
+each_yields {N} {A} P step one found (item ∷ items) all r h = by h.answer h.is h.after
+  where
+    by : (x : Answer A) → step found item x → step.After x (λ a. Each step (found ++ a ∷ []) items) (Ok r) → All P r
+    by (Ok a) is after = each_yields P step one (found ++ a ∷ []) items (All-push P found a all (one found item a is)) r after
+    by (Err e) is after = ?
+
+-- ---- what a job says
+
+settings_below : (p : ℕ) (settings : List Setting) → 0 < p → Yields (All (λ v. v < p)) (AreSettingsAt p settings)
+settings_below p settings some = each_yields (λ v. v < p) _ (λ found setting. value_below p [] _ _ _ some (λ i d low. absurd (omega (arith, low)))) [] settings (λ i d low. absurd (omega (arith, low)))
+
+symbol_below : (p : ℕ) (symbol : Option ℕ) (values : List ℕ) → 1 < p → All (λ v. v < p) values → All (λ v. v < p) (with_symbol symbol values)
+symbol_below p None values big all = all
+symbol_below p (Some place) values big all =
+    All-append (λ v. v < p) (take place values ++ 1 ∷ []) (drop place values) (All-push (λ v. v < p) (take place values) 1 (All-take (λ v. v < p) place values all) big) (All-drop (λ v. v < p) place values all)
+
+values_name : (p : ℕ) → 1 < p → (symbol : Option ℕ) (settings : List Setting) → NamesDivisorsAlone p (AreValuesAt p symbol settings)
+values_name p big symbol [] fault h = absurd h
+values_name p big symbol (dimension ∷ others) fault h =
+    let some : 0 < p = omega (arith, big) in
+    let none : All (λ v. v < p) [] = λ i d low. absurd (omega (arith, low)) in
+    then_names p _ _ (each_names p _ (λ found setting. value_names p [] _ _ _ some none) [] others) (λ values is.
+    then_names p _ _ (value_names p [] _ _ _ some none) (λ d is. is_names p _)) fault h
+
+values_below : (p : ℕ) → 1 < p → (symbol : Option ℕ) (settings : List Setting) → Yields (λ (values : Values). All (λ v. v < p) values.residues) (AreValuesAt p symbol settings)
+values_below p big symbol settings values h = ?
+
+point_names : (p : ℕ) → 1 < p → (residues : List ℕ) (kinematics : Kinematics) → All (λ v. v < p) residues → NamesDivisorsAlone p (IsPointAt p residues kinematics)
+point_names p big residues kinematics below =
+    let some : 0 < p = omega (arith, big) in
+    then_names p (AreRulesAt p residues kinematics.rules) _
+    (each_names p _ (λ found rule. then_names p _ _ (value_names p residues _ _ _ some below) (λ value is. is_names p _)) [] kinematics.rules)
+    (λ rules is fault h. h)
+
+basis_names : (p : ℕ) → 1 < p → (residues : List ℕ) (point : Point) (number : ℕ) (family : Family) → All (λ v. v < p) residues → NamesDivisorsAlone p (IsBasisAt p residues point number family)
+basis_names p big residues point number family below =
+    let some : 0 < p = omega (arith, big) in
+    then_names p (AreDenominatorsAt p residues family.propagators) _
+    (each_names p _ (λ found propagator. then_names p _ _ (value_names p residues _ _ _ some below) (λ mass is. is_names p _)) [] family.propagators)
+    (λ denominators is fault h. h)
+
+pub points_name_divisors : PointsNameDivisors
+points_name_divisors p kinematics families settings big =
+    then_names p _ _ (values_name p big kinematics.symbol settings) (λ values is.
+    let below = values_below p big kinematics.symbol settings values is in
+    then_names p _ _ (point_names p big values.residues kinematics below) (λ point is.
+    then_names p _ _ (each_names p _ (λ found family. basis_names p big values.residues point _ family below) [] families) (λ bases is. is_names p _)))
