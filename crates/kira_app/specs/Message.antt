@@ -47,10 +47,16 @@ fault_pieces name fault = name ∷ codes ":" ∷ decimal fault.line ∷ codes ":
 abbrev pub zero_pieces : Bytes → ℕ → ℕ → List Bytes
 zero_pieces name line at = name ∷ codes ":" ∷ decimal line ∷ codes ": division by zero at byte " ∷ decimal at ∷ []
 
+abbrev pub dependent_pieces : Bytes → List Bytes
+dependent_pieces family = codes "the denominators of family " ∷ family ∷ codes " are dependent" ∷ []
+
+abbrev pub divisor_pieces : ℕ → List Bytes
+divisor_pieces divisor = codes "the prime is divisible by " ∷ decimal divisor ∷ []
+
 abbrev pub singular_pieces : Bytes → Bytes → point.Singular → List Bytes
 singular_pieces job name (ZeroDivisor file line at) = zero_pieces (file_name job name file) line at
 singular_pieces job name (RulesOpen vector) = codes "the scalar product rules leave a product open" ∷ []
-singular_pieces job name (NotBasis family vector) = codes "the denominators of family " ∷ name ∷ codes " are dependent" ∷ []
+singular_pieces job name (NotBasis family vector) = dependent_pieces name
 
 abbrev pub excess_text : Excess → Bytes
 excess_text Seeds = codes "more than 131072 seeds"
@@ -64,7 +70,7 @@ pieces job name Ok = []
 pieces job name (Input fault) = fault_pieces (file_name job name fault.file) fault
 pieces job name (Singular cause) = singular_pieces job name cause
 pieces job name (RulesClash multipliers residue) = codes "the scalar product rules contradict each other" ∷ []
-pieces job name (Composite fault) = codes "the prime is divisible by " ∷ decimal fault.divisor ∷ []
+pieces job name (Composite fault) = divisor_pieces fault.divisor
 pieces job name (TooMany what count) = excess_text what ∷ []
 pieces job name ReadFault = codes "reading failed" ∷ []
 pieces job name WriteFault = codes "writing failed" ∷ []

@@ -109,9 +109,14 @@ served outline = if has_symmetry outline then Err (plain status.NotYet) else Ok 
 abbrev pub SourcesWith : Trees → Outline → Held → Step Sources
 SourcesWith trees outline held = Then (ListsOf outline.select.files held) (λ lists. Is (Ok (record { trees = trees; lists = lists })))
 
--- The files of the job with this name: its trees, which have an outline with these words, and then its list files.
-abbrev pub ReadsSources : List Override → Bytes → Held → Step Sources
-ReadsSources overrides name held =
+-- The trees of the job with this name, which have an outline with these words.
+abbrev pub Outlines : List Override → Bytes → Held → Step (Trees × Outline)
+Outlines overrides name held =
     Then (TreesOf name held) (λ trees.
     Then (OutlineOf overrides trees) (λ outline.
-    Then (Is (served outline)) (λ _. SourcesWith trees outline held)))
+    Then (Is (served outline)) (λ _.
+    Is (Ok (trees, outline)))))
+
+-- The files of the job with this name: its trees, and then its list files.
+abbrev pub ReadsSources : List Override → Bytes → Held → Step Sources
+ReadsSources overrides name held = Then (Outlines overrides name held) (λ both. SourcesWith both.0 both.1 held)

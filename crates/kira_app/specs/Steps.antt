@@ -1,5 +1,6 @@
 -- The steps of a run, of which the first that is refused is the last. The project's own.
-use Rattle.std.specs.Prelude.{◌≡◌, List, [], ◌∷◌, ◌++◌, Result, Ok, Err}
+use Rattle.std.specs.Prelude.{◌≡◌, ℕ, List, [], ◌∷◌, ◌++◌, map, Result, Ok, Err}
+use Rattle.std.specs.declared.vec.Vec.{Vec}
 use Rattle.input_schema.specs.declared.faults.InputFault.{InputFault}
 use Rattle.input_schema.specs.Readings.{Reading}
 use Rattle.job_point.specs.declared.faults.PlanError.{PlanError}
@@ -56,3 +57,12 @@ OfPlan told step (Err refusal) = (e : PlanError) × step (Err e) × (refusal ≡
 abbrev pub plainly : {A : Type 0} → Result A Status → Answer A
 plainly (Ok a) = Ok a
 plainly (Err s) = Err (plain s)
+
+-- the bytes of an answer that has them in a vector, or in several
+abbrev pub texts_of : Result (Vec (Vec ℕ)) Refusal → Answer (List (List ℕ))
+texts_of (Ok texts) = Ok (map (λ text. text.items) texts.items)
+texts_of (Err refusal) = Err refusal
+
+abbrev pub bytes_of : Result (Vec ℕ) Refusal → Answer (List ℕ)
+bytes_of (Ok bytes) = Ok bytes.items
+bytes_of (Err refusal) = Err refusal

@@ -48,6 +48,10 @@ abbrev pub SaysMissing : Status → Type 0
 SaysMissing (status.Input fault) = fault.kind ≡ Missing
 SaysMissing other = ⊥
 
+-- the status isn't that a file is missing
+abbrev pub IsPresent : Status → Type 0
+IsPresent s = ¬ (SaysMissing s)
+
 -- where nothing is told, a file is called missing only if the count rose
 abbrev pub IsMissed : Option Held → ℕ → ℕ → Status → Type 0
 IsMissed held before now s = held ≡ None → SaysMissing s → Rose before now

@@ -13,16 +13,17 @@ use Rattle.table_text.specs.TableText.{table_text, zeros_of}
 use Rattle.job_equations.specs.Equations.{AreEquations}
 use Rattle.job_point.specs.declared.faults.Singular.TheVariants as singular
 use Rattle.job_plan.specs.Outlines.{Outline}
-use Rattle.job_plan.specs.Plans.{Plan}
+use Rattle.job_plan.specs.Plans.{Plan, IsPlan}
+use Rattle.job_schema.specs.Overridden.{Override}
+use Rattle.job_point.specs.declared.faults.PlanError.{PlanError}
 use Rattle.kira_app.specs.declared.trees.Trees.{Trees}
 use Rattle.kira_app.specs.declared.status.Status.{Status}
 use Rattle.kira_app.specs.declared.status.Status.TheVariants as status
-use Rattle.kira_app.specs.declared.refusal.Refusal.{Refusal}
 use Rattle.kira_app.specs.Steps.{plain}
-use Rattle.kira_app.specs.Told.{IfTold, IsMissed}
+use Rattle.kira_app.specs.Told.{IfTold, SaysMissing}
 use Rattle.kira_app.specs.Words.{are_served, job_file, overrides_of}
 use Rattle.kira_app.specs.Sources.{TreesOf, OutlineOf}
-use Rattle.kira_app.specs.Plans.{PlanOf}
+use Rattle.kira_app.specs.Plans.{status_of, PlanOf}
 
 -- ---- the table
 
@@ -91,6 +92,12 @@ pub record IsPrime (p : ℕ) : Type 0 where
   pub above_1 : 1 < p
   pub only : (d : ℕ) → d ∣ p → (d ≡ 1) ⊎ (d ≡ p)
 
+-- what a refusal of a reduction says
+abbrev pub IsReductionFault : ℕ → Status → Type 0
+IsReductionFault p (status.Composite fault) = IsDivisor p fault.divisor
+IsReductionFault p status.OutOfMemory = ⊤
+IsReductionFault p other = ⊥
+
 -- ---- the answers
 
 -- What stands around a call: the words, what the files tell, and the counts of faults and what the sink tells
@@ -121,6 +128,17 @@ HasCause a (status.Singular cause) name = IsRefusal a (status.Singular cause) na
 HasCause a (status.RulesClash multipliers residue) name = IsRefusal a (status.RulesClash multipliers residue) name
 HasCause a (status.TooMany what count) name = IsRefusal a (status.TooMany what count) name
 HasCause a status.NotYet name = IsRefusal a status.NotYet name
+
+-- the reading of some trees, or the plan of some outline, has this refusal
+abbrev pub IsSaidByContents : Status → Type 0
+IsSaidByContents s =
+    ((overrides : List Override) × (trees : Trees) × OutlineOf overrides trees (Err (plain s)))
+    ⊎ ((outline : Outline) × (lists : List Bytes) × (e : PlanError) × IsPlan outline lists (Err e) × (s ≡ status_of e))
+
+-- Where nothing is told, a file is called missing only if the count rose, or if the reading of some trees or of some
+-- list files says so. No schema has this fault; that none has isn't claimed here.
+abbrev pub IsMissedIn : Option Held → ℕ → ℕ → Status → Type 0
+IsMissedIn held before now s = held ≡ None → SaysMissing s → Rose before now ⊎ IsSaidByContents s
 
 -- the two statuses are equal but for the vector or the multipliers that they show
 abbrev pub IsAlike : Status → Status → Type 0

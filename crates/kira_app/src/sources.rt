@@ -1,15 +1,16 @@
 //! What the files of a job hold, loaded in their order.
 
-ghost use Rattle.std.specs.Prelude.{◌≡◌, ◌≤◌, ◌<◌, ◌^◌, All, length, map, IfOk, IfErr};
+ghost use Rattle.std.specs.Prelude.{◌≡◌, ◌⊎◌, ◌≤◌, ◌<◌, ◌^◌, Ok, All, length, map, IfOk, IfErr};
 ghost use Rattle.std.specs.Str.{IsAscii};
 ghost use Rattle.input_schema.specs.Readings as input;
-ghost use Rattle.kira_app.specs.Steps.{Is, OfReading, plainly};
-ghost use Rattle.kira_app.specs.Sources.{tree_in, list_of, TreeOf, KinematicsOf, FamiliesOf, TreesOf, ListsOf, OutlineOf, served, SourcesWith, ReadsSources};
+ghost use Rattle.kira_app.specs.Steps.{Is, OfReading, plainly, texts_of, bytes_of};
+ghost use Rattle.kira_app.specs.Sources.{tree_in, list_of, TreeOf, KinematicsOf, FamiliesOf, TreesOf, ListsOf, OutlineOf, Outlines, served, SourcesWith, ReadsSources};
+ghost use Rattle.kira_app.specs.TopClauses.{IsMissedIn};
 ghost use Rattle.kira_app.specs.Told.{Tells, Answers, IsMissed, IsPresent};
 
 use crate::trees::Trees;
 use crate::{Refusal, Status};
-use job_plan::{File, InputFault, InputKind, Outline, Override, PlanError};
+use job_plan::{File, InputFault, InputKind, Outline, Override, PlanError, one_selection};
 use kira_outside::{Files, LoadFault};
 use std::alloc::Global;
 use std::marker::Model;
@@ -170,7 +171,7 @@ fn load_list<F: Files>(
 ) -> Result<Vec<u8>, Refusal>
     requires ascii { IsAscii name.now }
     requires short { length name.now < 2 ^ 32 }
-    ensures list { Tells (F.held files.old) (F.faults files.old) (F.faults files.new) (λ held. Is (list_of number name.now held)) (shown result) }
+    ensures list { Tells (F.held files.old) (F.faults files.old) (F.faults files.new) (λ held. Is (list_of number name.now held)) (bytes_of result) }
     ensures short { IfOk result (λ bytes. length bytes.items ≤ 2 ^ 24) }
     ensures missing { IfErr result (λ refusal. IsMissed (F.held files.old) (F.faults files.old) (F.faults files.new) refusal.status) }
     ensures same { F.held files.new ≡ F.held files.old }
@@ -184,5 +185,83 @@ fn load_list<F: Files>(
         }
         Err(LoadFault::Failed) => Err(Refusal::plain(alloc, Status::ReadFault)),
         Err(LoadFault::OutOfMemory) => Err(Refusal::plain(alloc, Status::OutOfMemory)),
+    }
+}
+
+// Loads the list files of an outline in their order.
+fn load_lists<F: Files>(
+    alloc: Global,
+    files: &mut F,
+    outline: &Outline,
+) -> Result<Vec<Vec<u8>>, Refusal>
+    ensures lists { Tells (F.held files.old) (F.faults files.old) (F.faults files.new) (ListsOf outline.now.select.files) (texts_of result) }
+    ensures short { IfOk result (λ lists. All (λ text. length text.items ≤ 2 ^ 24) lists.items) }
+    ensures count { IfOk result (λ lists. length lists.items ≡ length outline.now.select.files) }
+    ensures missing { IfErr result (λ refusal. IsMissed (F.held files.old) (F.faults files.old) (F.faults files.new) refusal.status) }
+    ensures same { F.held files.new ≡ F.held files.old }
+{
+    let mut lists = Vec::new(alloc);
+    for number in 0..outline.list_count() {
+        let text = load_list(alloc, files, number, outline.list_name(number))?;
+        lists.push(text)?;
+    }
+    Ok(lists)
+}
+
+// The trees of the job with this name, and their outline.
+fn outlined<F: Files>(
+    alloc: Global,
+    files: &mut F,
+    jobfile: &str,
+    overrides: &[Override],
+) -> Result<(Trees, Outline), Status>
+    ensures outlines { Tells (F.held files.old) (F.faults files.old) (F.faults files.new) (Outlines overrides.now jobfile.now) (plainly result) }
+    ensures outline { IfOk result (λ both. OutlineOf overrides.now both.0 (Ok both.1)) }
+    ensures missing { IfErr result (IsMissedIn (F.held files.old) (F.faults files.old) (F.faults files.new)) }
+    ensures same { F.held files.new ≡ F.held files.old }
+{
+    let trees = load_trees(alloc, files, jobfile)?;
+    let outline = outline(alloc, &trees, overrides)?;
+    served(&outline)?;
+    Ok((trees, outline))
+}
+
+// The trees with the list files of their outline.
+fn with_lists<F: Files>(
+    alloc: Global,
+    files: &mut F,
+    trees: Trees,
+    outline: &Outline,
+    overrides: &[Override],
+) -> Result<Sources, Refusal>
+    requires { OutlineOf overrides.now trees (Ok outline.now) }
+    ensures sources { Tells (F.held files.old) (F.faults files.old) (F.faults files.new) (SourcesWith trees outline.now) result }
+    ensures missing { IfErr result (λ refusal. IsMissed (F.held files.old) (F.faults files.old) (F.faults files.new) refusal.status) }
+    ensures same { F.held files.new ≡ F.held files.old }
+{
+    one_selection();
+    let lists = load_lists(alloc, files, outline)?;
+    Ok(Sources { trees, lists })
+}
+
+/// What the files of the job hold: the trees of the job file, of the families and of the kinematics, which
+/// have an outline with these words, and then the list files that it names.
+///
+/// # Errors
+///
+/// The first file that can't be read, is missing or too long, or the first fault of the trees and the words.
+pub fn sources<F: Files>(
+    alloc: Global,
+    jobfile: &str,
+    overrides: &[Override],
+    files: &mut F,
+) -> Result<Sources, Refusal>
+    ensures sources { Tells (F.held files.old) (F.faults files.old) (F.faults files.new) (ReadsSources overrides.now jobfile.now) result }
+    ensures missing { IfErr result (λ refusal. IsMissedIn (F.held files.old) (F.faults files.old) (F.faults files.new) refusal.status) }
+    ensures same { F.held files.new ≡ F.held files.old }
+{
+    match outlined(alloc, files, jobfile, overrides) {
+        Ok((trees, outline)) => with_lists(alloc, files, trees, &outline, overrides),
+        Err(status) => Err(Refusal::plain(alloc, status)),
     }
 }
