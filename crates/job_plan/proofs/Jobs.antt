@@ -1,86 +1,69 @@
 -- What every job of the file of jobs has: as many settings as there are parameters, also where words give
--- values, and few list files.
-use Rattle.std.proofs.Common.{◌≡◌, ◌≤◌, ◌+◌, ℕ, Bool, true, false, cond, List, [], ◌∷◌, ◌++◌, length, length-append, Option, Some, None, Result, Ok, Err, if◌then◌else◌, ◌==◌, refl, ◌∙◌, subst, arith, codes}
+-- values, specs that fit, and few list files, each of a family.
+use Rattle.std.proofs.Common.{◌≡◌, ◌<◌, ◌≤◌, ◌+◌, ℕ, All, List, [], ◌∷◌, ◌++◌, map, length, Option, Some, None, Result, Ok, if◌then◌else◌, ◌==◌, refl, ◌∙◌, subst, arith, codes}
 use Rattle.std.specs.Prelude.{IfOk}
+use Rattle.std.proofs.lemmas.List.Elements.{All-nil}
 use Rattle.std.proofs.lemmas.List.{length-set}
 use Rattle.std.specs.Str.{bytes_eq}
 use Rattle.yaml_text.specs.declared.tree.Tree.{Tree}
 use Rattle.yaml_text.specs.declared.tree.Pair.{Pair}
 use Rattle.yaml_text.specs.Lines.{Bytes}
-use Rattle.input_schema.specs.declared.faults.File.{File}
+use Rattle.seed_sets.specs.Seeds.{IsFitting}
 use Rattle.input_schema.specs.declared.faults.File.TheVariants.{Jobs, Words}
-use Rattle.input_schema.specs.declared.faults.InputFault.{InputFault}
 use Rattle.input_schema.specs.declared.faults.SchemaError.{SchemaError}
 use Rattle.input_schema.specs.declared.faults.InputKind.TheVariants.{BadOverride, UnknownName, DuplicateName}
 use Rattle.input_schema.specs.Readings.{Outcome, refuse, ◌>>=◌, Gives}
-use Rattle.input_schema.specs.Nodes.{line_of, list, within, items}
+use Rattle.input_schema.specs.Nodes.{line_of, items}
 use Rattle.input_schema.specs.Maps.{needed, value_of}
 use Rattle.job_schema.specs.declared.frames.Frame.{Frame}
-use Rattle.job_schema.specs.declared.selections.Selection.{Selection}
+use Rattle.family_schema.specs.declared.content.Family.{Family}
+use Rattle.job_schema.specs.declared.selections.ListFile.{ListFile}
 use Rattle.job_schema.specs.declared.points.PointInput.{PointInput}
 use Rattle.job_schema.specs.declared.points.NumericPoint.{NumericPoint}
 use Rattle.job_schema.specs.declared.jobs.Job.{Job}
 use Rattle.job_schema.specs.Overridden.{Override}
 use Rattle.job_schema.specs.Readings.{each}
+use Rattle.job_schema.specs.Specs.{specs}
 use Rattle.job_schema.specs.Ratios.{ratio, prime}
 use Rattle.job_schema.specs.Overrides.{name_length, name_in, value_in, is_repeated, is_parameter, with_setting, with_prime, with_value, with_name, with_word, with_words, given, given_settings, settled, numeric_point}
-use Rattle.job_schema.specs.Jobs.{list_file, named_files, list_files, specs_in, files_in, selection_pairs, selection_of, selection, prime_in, setting_of, settings_of, point_of, point_pairs, point, run_flags, reduced_in, selected_in, point_in, job_pairs, job_of, job, under, job_node, jobs}
+use Rattle.job_schema.specs.Jobs.{list_file, named_files, list_files, selected_specs, specs_in, files_in, selection_pairs, selection_of, selection, prime_in, setting_of, settings_of, point_of, point_pairs, point, run_flags, reduced_in, selected_in, point_in, job_pairs, job_of, job, under, job_node, jobs}
+use Rattle.job_plan.specs.Outlines.{IsSelection}
+use Rattle.job_plan.specs.Readings.{frame_of}
+use Rattle.job_plan.specs.Shapes.{shapes_of}
+use Rattle.job_plan.proofs.Outcomes.{behind, behind_known, both, weaker, answered, each_counts, each_all, items_few, either}
+use Rattle.job_plan.proofs.JobSpecs.{file_placed, specs_fit}
 
--- ---- what holds of every value
+-- ---- the selection
 
--- of what follows a part, where it holds of it for each value of the part
-behind : {A B : Type 0} (o : Outcome A) (f : A → Outcome B) (P : B → Type 0) → ((a : A) → IfOk (f a) P) → IfOk (o >>= f) P
-behind (Ok a) f P h = h a
-behind (Err e) f P h = tt
+-- few list files, each of one of so many families
+record AreFiles (count : ℕ) (files : List ListFile) : Type 0 where
+  pub few : length files ≤ 16
+  pub placed : All (λ file. file.family < count) files
 
--- the same, where something is known of the part
-behind_known : {A B : Type 0} (o : Outcome A) (f : A → Outcome B) (Q : A → Type 0) (P : B → Type 0) → IfOk o Q → ((a : A) → Q a → IfOk (f a) P) → IfOk (o >>= f) P
-behind_known (Ok a) f Q P k h = h a k
-behind_known (Err e) f Q P k h = tt
+named_files_kept : (names : List Bytes) (node : Tree) → IfOk (named_files names node) (AreFiles (length names))
+named_files_kept names node =
+    behind_known (items Jobs node 0 16) (each (list_file names) []) (λ nodes. length nodes ≤ 16) (AreFiles (length names)) (items_few Jobs node 0 16)
+    (λ nodes few. both (each (list_file names) [] nodes) (λ files. length files ≡ 0 + length nodes) (All (λ file. file.family < length names)) (AreFiles (length names))
+    (each_counts (list_file names) [] nodes) (each_all (list_file names) (λ file. file.family < length names) (file_placed names) [] nodes (All-nil _))
+    (λ files e placed. record { few = omega (arith, e, few); placed = placed }))
 
-weaker : {A : Type 0} (o : Outcome A) (Q P : A → Type 0) → IfOk o Q → ((a : A) → Q a → P a) → IfOk o P
-weaker (Ok a) Q P k h = h a k
-weaker (Err e) Q P k h = tt
+list_files_kept : (names : List Bytes) (node : Option Tree) → IfOk (list_files names node) (AreFiles (length names))
+list_files_kept names None = record { few = omega arith; placed = All-nil _ }
+list_files_kept names (Some node) = named_files_kept names node
 
--- a call answers such a value, where its outcome is
-answered : {A : Type 0} (o : Outcome A) (r : Result A SchemaError) (P : A → Type 0) → Gives o r → IfOk o P → IfOk r P
-answered {A} o (Ok a) P h k = subst (λ (x : Outcome A). IfOk x P) h k
-answered o (Err e) P h k = tt
+module _ (families : List Family) (names : List Bytes) (same : length names ≡ length families) where
+  selected_specs_fit : (node : Option Tree) → IfOk (selected_specs names (map frame_of families) node) (All (IsFitting (shapes_of families)))
+  selected_specs_fit None = All-nil _
+  selected_specs_fit (Some node) = specs_fit families names same 0 node
 
--- ---- lists
-
-each_counts : {N A : Type 0} (read : N → Outcome A) (found : List A) (nodes : List N) → IfOk (each read found nodes) (λ all. length all ≡ length found + length nodes)
-each_counts read found [] = omega arith
-each_counts {N} {A} read found (node ∷ nodes) =
-    behind (read node) (λ a. each read (found ++ a ∷ []) nodes) (λ all. length all ≡ length found + length (node ∷ nodes))
-    (λ a. weaker (each read (found ++ a ∷ []) nodes) (λ all. length all ≡ length (found ++ a ∷ []) + length nodes) (λ all. length all ≡ length found + length (node ∷ nodes))
-    (each_counts read (found ++ a ∷ []) nodes) (λ all e. omega (arith, e, length-append found (a ∷ []))))
-
-tested : {A : Type 0} (b : Bool) (a : A) (e : InputFault) (P : A → Type 0) → (b ≡ true → P a) → IfOk (cond b (Ok a) (Err e)) P
-tested true a e P h = h refl
-tested false a e P h = tt
-
-items_few : (file : File) (node : Tree) (least most : ℕ) → IfOk (items file node least most) (λ nodes. length nodes ≤ most)
-items_few file node least most =
-    behind (list file node) (within file (line_of node) least most) (λ nodes. length nodes ≤ most) (λ nodes. tested _ nodes _ (λ found. length found ≤ most) (λ e. grind arith))
-
--- ---- list files
-
-named_files_few : (names : List Bytes) (node : Tree) → IfOk (named_files names node) (λ files. length files ≤ 16)
-named_files_few names node =
-    behind_known (items Jobs node 0 16) (each (list_file names) []) (λ nodes. length nodes ≤ 16) (λ files. length files ≤ 16) (items_few Jobs node 0 16)
-    (λ nodes few. weaker (each (list_file names) [] nodes) (λ files. length files ≡ 0 + length nodes) (λ files. length files ≤ 16) (each_counts (list_file names) [] nodes) (λ files e. omega (arith, e, few)))
-
-list_files_few : (names : List Bytes) (node : Option Tree) → IfOk (list_files names node) (λ files. length files ≤ 16)
-list_files_few names None = omega arith
-list_files_few names (Some node) = named_files_few names node
-
-selection_few : (names : List Bytes) (frames : List Frame) (node : Tree) → IfOk (selection names frames node) (λ select. length select.files ≤ 16)
-selection_few names frames node =
-    behind (selection_pairs node) (selection_of names frames) (λ select. length select.files ≤ 16) (λ pairs.
-    behind (specs_in names frames pairs) (λ found. files_in names pairs >>= (λ files. Ok (record { specs = found; files = files }))) (λ (select : Selection). length select.files ≤ 16) (λ found.
-    behind_known (files_in names pairs) (λ files. Ok (record { specs = found; files = files })) (λ files. length files ≤ 16) (λ (select : Selection). length select.files ≤ 16)
-    (list_files_few names (value_of pairs (codes "select_mandatory_list"))) (λ files few. few)))
+  selection_kept : (node : Tree) → IfOk (selection names (map frame_of families) node) (IsSelection families)
+  selection_kept node =
+      behind (selection_pairs node) (selection_of names (map frame_of families)) (IsSelection families) (λ pairs.
+      behind_known (specs_in names (map frame_of families) pairs) (λ found. files_in names pairs >>= (λ files. Ok (record { specs = found; files = files }))) (All (IsFitting (shapes_of families))) (IsSelection families)
+      (selected_specs_fit (value_of pairs (codes "select_mandatory_recursively"))) (λ found fit.
+      behind_known (files_in names pairs) (λ files. Ok (record { specs = found; files = files })) (AreFiles (length names)) (IsSelection families)
+      (list_files_kept names (value_of pairs (codes "select_mandatory_list"))) (λ files kept.
+      record { specs_fit = fit; few_files = kept.few; files_placed = subst (λ (n : ℕ). All (λ file. file.family < n) files) same kept.placed })))
 
 -- ---- settings
 
@@ -93,46 +76,43 @@ point_counts names node =
 
 -- ---- the job
 
-record IsFitting (names : List Bytes) (job : Job) : Type 0 where
-  pub settings : length job.point.settings ≡ length names
-  pub few_files : length job.select.files ≤ 16
+record IsJob (families : List Family) (parameters : List Bytes) (job : Job) : Type 0 where
+  pub reduce_fits : All (IsFitting (shapes_of families)) job.reduce
+  pub select_fits : IsSelection families job.select
+  pub settings : length job.point.settings ≡ length parameters
 
-module _ (names : List Bytes) (frames : List Frame) (parameters : List Bytes) where
-  selected_few : (line : ℕ) (pairs : List Pair) → IfOk (selected_in names frames line pairs) (λ select. length select.files ≤ 16)
-  selected_few line pairs = behind (needed Jobs line pairs (codes "select_integrals")) (selection names frames) (λ select. length select.files ≤ 16) (selection_few names frames)
+module _ (families : List Family) (names : List Bytes) (same : length names ≡ length families) (parameters : List Bytes) where
+  abbrev frames : List Frame
+  frames = map frame_of families
+
+  reduced : (line : ℕ) (pairs : List Pair) → IfOk (reduced_in names frames line pairs) (All (IsFitting (shapes_of families)))
+  reduced line pairs = behind (needed Jobs line pairs (codes "reduce")) (specs names frames 1) (All (IsFitting (shapes_of families))) (specs_fit families names same 1)
+
+  selected : (line : ℕ) (pairs : List Pair) → IfOk (selected_in names frames line pairs) (IsSelection families)
+  selected line pairs = behind (needed Jobs line pairs (codes "select_integrals")) (selection names frames) (IsSelection families) (selection_kept families names same)
 
   pointed : (line : ℕ) (pairs : List Pair) → IfOk (point_in parameters line pairs) (λ values. length values.settings ≡ length parameters)
   pointed line pairs = behind (needed Jobs line pairs (codes "numeric_point")) (point parameters) (λ values. length values.settings ≡ length parameters) (point_counts parameters)
 
-  job_of_fits : (line : ℕ) (pairs : List Pair) → IfOk (job_of names frames parameters line pairs) (IsFitting parameters)
+  job_of_fits : (line : ℕ) (pairs : List Pair) → IfOk (job_of names frames parameters line pairs) (IsJob families parameters)
   job_of_fits line pairs =
-      behind (reduced_in names frames line pairs) _ (IsFitting parameters) (λ reduce.
-      behind_known (selected_in names frames line pairs) _ (λ select. length select.files ≤ 16) (IsFitting parameters) (selected_few line pairs) (λ select few.
-      behind (run_flags pairs) _ (IsFitting parameters) (λ _.
-      behind_known (point_in parameters line pairs) (λ values. Ok (record { reduce = reduce; select = select; point = values })) (λ values. length values.settings ≡ length parameters) (IsFitting parameters) (pointed line pairs)
-      (λ values e. record { settings = e; few_files = few }))))
+      behind_known (reduced_in names frames line pairs) _ (All (IsFitting (shapes_of families))) (IsJob families parameters) (reduced line pairs) (λ reduce fit.
+      behind_known (selected_in names frames line pairs) _ (IsSelection families) (IsJob families parameters) (selected line pairs) (λ select kept.
+      behind (run_flags pairs) _ (IsJob families parameters) (λ _.
+      behind_known (point_in parameters line pairs) (λ values. Ok (record { reduce = reduce; select = select; point = values })) (λ values. length values.settings ≡ length parameters) (IsJob families parameters) (pointed line pairs)
+      (λ values e. record { reduce_fits = fit; select_fits = kept; settings = e }))))
 
-  jobs_fit : (tree : Tree) → IfOk (jobs names frames parameters tree) (IsFitting parameters)
+  jobs_fit : (tree : Tree) → IfOk (jobs names frames parameters tree) (IsJob families parameters)
   jobs_fit tree =
-      behind (job_node tree) _ (IsFitting parameters) (λ item.
-      behind (under (codes "reduce_sectors") item) (job names frames parameters) (IsFitting parameters) (λ node.
-      behind (job_pairs node) (job_of names frames parameters (line_of node)) (IsFitting parameters) (job_of_fits (line_of node))))
+      behind (job_node tree) _ (IsJob families parameters) (λ item.
+      behind (under (codes "reduce_sectors") item) (job names frames parameters) (IsJob families parameters) (λ node.
+      behind (job_pairs node) (job_of names frames parameters (line_of node)) (IsJob families parameters) (job_of_fits (line_of node))))
 
-  pub settings_counted : (tree : Tree) (r : Result Job SchemaError) → Gives (jobs names frames parameters tree) r → IfOk r (λ job. length job.point.settings ≡ length parameters)
-  settings_counted tree r gives =
-      answered (jobs names frames parameters tree) r (λ job. length job.point.settings ≡ length parameters) gives
-      (weaker (jobs names frames parameters tree) (IsFitting parameters) (λ job. length job.point.settings ≡ length parameters) (jobs_fit tree) (λ job fits. fits.settings))
-
-  pub files_few : (tree : Tree) (r : Result Job SchemaError) → Gives (jobs names frames parameters tree) r → IfOk r (λ job. length job.select.files ≤ 16)
-  files_few tree r gives =
-      answered (jobs names frames parameters tree) r (λ job. length job.select.files ≤ 16) gives
-      (weaker (jobs names frames parameters tree) (IsFitting parameters) (λ job. length job.select.files ≤ 16) (jobs_fit tree) (λ job fits. fits.few_files))
+  -- what each job keeps that was read
+  pub jobs_kept : (tree : Tree) (r : Result Job SchemaError) → Gives (jobs names (map frame_of families) parameters tree) r → IfOk r (IsJob families parameters)
+  jobs_kept tree r gives = answered (jobs names frames parameters tree) r (IsJob families parameters) gives (jobs_fit tree)
 
 -- ---- the words
-
-either : {A : Type 0} (b : Bool) (x y : Outcome A) (P : A → Type 0) → IfOk x P → IfOk y P → IfOk (if b then x else y) P
-either true x y P h k = h
-either false x y P h k = k
 
 -- the words leave as many settings as there were
 module _ (names : List Bytes) where

@@ -1,2 +1,9 @@
+pub mod Outcomes
+pub mod JobSpecs
 pub mod Jobs
-mod PlanLemmas
+pub mod FamilyLemmas
+pub mod PlanLemmas
+pub mod ShapeLemmas
+pub mod GatheringLemmas
+pub mod SeedLemmas
+pub mod SingleLemmas

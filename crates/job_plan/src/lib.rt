@@ -3,6 +3,8 @@
 #![tactic(auto)]
 
 mod gathering;
+#[cfg(test)]
+mod integral_tests;
 mod laws;
 mod list_files;
 mod outlines;

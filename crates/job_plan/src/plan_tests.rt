@@ -1,7 +1,9 @@
 //! Plans of small jobs, and why there is none, worked out by hand.
 
+ghost use Rattle.std.specs.Prelude.{◌≡◌, ◌≤◌, ◌^◌, All, IfOk, length};
+
 use crate::tests::{FAMILIES, JOB, KINEMATICS, ONE_MOMENTUM, TWO_LISTS, outline_of};
-use crate::{File, Plan, PlanError, Singular, plan};
+use crate::{File, Outline, Plan, PlanError, Singular, plan};
 use integral_index::Order;
 use propagators::Basis;
 use std::alloc::Global;
@@ -26,15 +28,43 @@ const DEPENDENT: &'static str =
 const BUBBLE_JOB: &'static str =
     "jobs:\n  - reduce_sectors:\n      reduce:\n        - {topologies: [bub], sectors: [3], r: 2, s: 0}\n      select_integrals: {}\n      numeric_point: {prime: 101, d: 7}\n";
 
-fn plan_of(
+/// The texts of list files.
+fn texts_of(alloc: Global, lists: &[&str]) -> Result<Vec<Vec<u8>>, Fail>
+    ensures { IfOk result (λ texts. All (λ text. length text.items ≤ 2 ^ 24) texts.items) }
+{
+    let mut texts = Vec::new(alloc);
+    for list in lists {
+        if list.len() > 1000 {
+            return Err(Fail::from("too long"));
+        }
+        texts.push(Vec::from_slice(alloc, list.as_bytes())?)?;
+    }
+    Ok(texts)
+}
+
+/// The plan of an outline whose list files have these texts.
+fn planned(
+    alloc: Global,
+    outline: &Outline,
+    lists: &[&str],
+) -> Result<Result<Plan, PlanError>, Fail> {
+    let texts = texts_of(alloc, lists)?;
+    if texts.len() != outline.list_count() as usize {
+        return Err(Fail::from("not a text for each list file"));
+    }
+    Ok(plan(alloc, outline, &texts))
+}
+
+pub(crate) fn plan_of(
     alloc: Global,
     kinematics: &str,
     families: &str,
     jobs: &str,
     words: &[&str],
+    lists: &[&str],
 ) -> Result<Result<Plan, PlanError>, Fail> {
     let outline = outline_of(alloc, kinematics, families, jobs, words)??;
-    Ok(plan(alloc, &outline))
+    planned(alloc, &outline, lists)
 }
 
 fn has_family(plan: &Plan, number: u32, name: &str, zeros: &[u32]) -> bool {
@@ -74,8 +104,8 @@ fn own_derivative(plan: &Plan, family: u32, number: u32) -> &[u64] {
 // D = k*k - 3, and the derivative is 2*k*k = 6 + 2*D.
 #[test]
 fn plans_the_tadpole(rt: HostRuntime) -> Result<(), Fail> {
-    let plan = plan_of(rt.alloc(), KINEMATICS, FAMILIES, JOB, &[])??;
-    assert_eq!(rt; (plan.modulus().value(), plan.dimension()), (101, 7));
+    let plan = plan_of(rt.alloc(), KINEMATICS, FAMILIES, JOB, &[], &[])??;
+    assert_eq!(rt; (plan.modulus().value(), plan.dimension), (101, 7));
     assert!(rt; plan.order() == Order::Standard && has_count(&plan, 1));
     assert!(rt; has_family(&plan, 0, "tad", &[]));
     assert_eq!(rt; own_derivative(&plan, 0, 1), [6, 2].as_slice());
@@ -83,14 +113,14 @@ fn plans_the_tadpole(rt: HostRuntime) -> Result<(), Fail> {
 }
 
 fn two_families(alloc: Global) -> Result<Plan, Fail> {
-    Ok(plan_of(alloc, ONE_MOMENTUM, TWO_FAMILIES, TWO_LISTS, &["d=-3"])??)
+    Ok(plan_of(alloc, ONE_MOMENTUM, TWO_FAMILIES, TWO_LISTS, &["d=-3"], &["", ""])??)
 }
 
 // The dimension is -3.
 #[test]
 fn plans_two_families(rt: HostRuntime) -> Result<(), Fail> {
     let plan = two_families(rt.alloc())?;
-    assert_eq!(rt; plan.dimension(), 98);
+    assert_eq!(rt; plan.dimension, 98);
     assert!(rt; has_count(&plan, 2));
     assert!(rt; has_family(&plan, 0, "bub", &[1, 2]));
     assert!(rt; has_family(&plan, 1, "sun", &[3, 8]));
@@ -200,6 +230,7 @@ fn refused_cause(alloc: Global, refused: &Refused) -> Result<Cause, Fail> {
         refused.families,
         refused.jobs,
         refused.words,
+        &[],
     )?;
     Ok(cause_of(&outcome))
 }

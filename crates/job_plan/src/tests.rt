@@ -266,7 +266,7 @@ fn reads_the_tadpole(rt: HostRuntime) -> Result<(), Fail> {
 pub(crate) const ONE_MOMENTUM: &'static str =
     "kinematics:\n  incoming_momenta: [p]\n  kinematic_invariants: [[s, 2], [m2, 2]]\n  scalarproduct_rules: [[[p, p], s]]\n  symbol_to_replace_by_one: s\n";
 
-const TWO_FAMILIES: &'static str =
+pub(crate) const TWO_FAMILIES: &'static str =
     "integralfamilies:\n  - {name: bub, loop_momenta: [k], propagators: [[k, m2], [k+p, 0]]}\n  - {name: sun, loop_momenta: [k, l], top_level_sectors: [7], propagators: [[k, m2], [l, 0], [k+l+p, 0], [k+p, 0], [l+p, 0]]}\n";
 
 pub(crate) const TWO_LISTS: &'static str =
