@@ -7,3 +7,5 @@ pub mod ShapeLemmas
 pub mod GatheringLemmas
 pub mod SeedLemmas
 pub mod SingleLemmas
+pub mod AgreementLemmas
+pub mod OutlineLaws

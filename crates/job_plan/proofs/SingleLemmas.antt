@@ -85,14 +85,14 @@ list_single families number listed text one other h k =
     let same : Ok one ≡ Ok other = sym h.is ∙ ap (λ (f : Family). told (list_file (file.List number) listed.family f.name f.width text)) family ∙ k.is in
     cc
 
-gathers_single : OneListAscends Standard → (what : Excess) (Kind : Integral → Type 0) → IsSingle (Gathers what Kind)
+pub gathers_single : OneListAscends Standard → (what : Excess) (Kind : Integral → Type 0) → IsSingle (Gathers what Kind)
 gathers_single law what Kind one other h k =
     law one other h.ascends k.ascends (λ x. (λ m. (k.members x).1 ((h.members x).0 m), λ m. (h.members x).1 ((k.members x).0 m)))
 
 few_single : (terms : ℕ) → IsSingle (AreFewTerms terms)
 few_single terms one other h k = refl
 
-plan_of_single : (families : List Family) (integrals : Integrals) (at : AtPoint) → IsSingle (HasPlan families integrals at)
+pub plan_of_single : (families : List Family) (integrals : Integrals) (at : AtPoint) → IsSingle (HasPlan families integrals at)
 plan_of_single families integrals at one other h k =
     let modulus : one.modulus ≡ other.modulus = h.modulus ∙ sym k.modulus in
     let order : one.order ≡ other.order = h.order ∙ sym k.order in

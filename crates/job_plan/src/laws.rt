@@ -1,6 +1,6 @@
 //! Laws of the reading of a job and of its plan.
 
-ghost use Rattle.job_plan.specs.Laws.{OutlineIsSingle, PlanIsSingle};
+ghost use Rattle.job_plan.specs.Laws.{OutlineIsSingle, PlanIsSingle, PlansAgree, PlansNameDivisors, OutlinesHaveAModulus, OneSelection};
 
 use integral_index::Order;
 
@@ -20,4 +20,27 @@ pub fn plan_is_single()
 {
     seed_sets::laws::one_list_ascends(Order::Standard);
     job_point::points_are_single();
+}
+
+/// Any two answers for the same outline and the same texts are the same, modulo a number above 1: the same plan, or
+/// the same refusal but for the vector or the multipliers that show it; unless one of them names a divisor of
+/// the modulus, which lies between 1 and it. So modulo a prime there is one answer. It does nothing when it
+/// runs.
+pub fn plans_agree()
+    ensures agree { PlansAgree }
+    ensures divisors { PlansNameDivisors }
+{
+    seed_sets::laws::one_list_ascends(Order::Standard);
+    seed_sets::laws::no_list_is_longer(Order::Standard);
+    job_point::points_agree();
+}
+
+/// The modulus of every outline is one that serves, and the same trees select the same, whatever the words
+/// are. It does nothing when it runs.
+pub fn outlines_have_a_modulus()
+    ensures modulus { OutlinesHaveAModulus }
+    ensures selection { OneSelection }
+{
+    kinematics_schema::reading_is_single();
+    family_schema::reading_is_single();
 }

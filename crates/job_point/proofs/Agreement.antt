@@ -1,11 +1,10 @@
 -- The answers of one step are the same, but where one names a divisor of the modulus.
 use Rattle.std.proofs.Common.{◌≡◌, ◌⊎◌, ◌<◌, inl, inr, ℕ, List, [], ◌∷◌, ◌++◌, length, All, Ok, Err, refl, sym, ap, ◌∙◌, subst, arith, get_or}
-use Rattle.std.proofs.lemmas.List.Elements.{All-get_or}
-use Rattle.matrix_elimination.specs.Fault.{IsProperDivisor}
+use Rattle.std.proofs.lemmas.Bool.{cases_lt}
+use Rattle.std.proofs.lemmas.List.{get_or_past}
 use Rattle.matrix_elimination.specs.Vectors.{HasLeadingOne}
 use Rattle.kinematics.specs.Laws.{HasOneOutcome}
 use Rattle.kinematics.specs.RuleLaws.{ClashHasNoTable}
-use Rattle.kinematics.specs.Rules.{IsRulesClash}
 use Rattle.kinematics.specs.Points.{Point}
 use Rattle.kinematics.specs.Trees.{Tree}
 use Rattle.kinematics.specs.declared.rules.Rule.{Rule}
@@ -14,65 +13,14 @@ use Rattle.input_schema.specs.declared.faults.File.{File}
 use Rattle.kinematics_schema.specs.declared.content.Kinematics.{Kinematics}
 use Rattle.family_schema.specs.declared.content.Family.{Family}
 use Rattle.job_schema.specs.declared.points.Setting.{Setting}
-use Rattle.job_point.specs.declared.faults.PlanError.{PlanError}
 use Rattle.job_point.specs.declared.faults.PlanError.TheVariants.{Input, Singular, RulesClash, Composite, TooMany, OutOfMemory}
 use Rattle.job_point.specs.declared.faults.Singular.TheVariants.{ZeroDivisor, RulesOpen, NotBasis}
-use Rattle.job_point.specs.Steps.{Answer, Step, Is, After, Then, Each}
 use Rattle.job_point.specs.Values.{answer_of, IsValueAt, AreSettingsAt, AreValuesAt}
 use Rattle.job_point.specs.Point.{AreRulesAt, IsPointFor, IsPointAt, AreDenominatorsAt, IsBasisFor, IsBasisAt}
-use Rattle.job_point.specs.Agreement.{IsSameFault, IsSameAnswer, NamesDivisor, Agrees}
+use Rattle.job_point.specs.Agreement.{Agrees}
 use Rattle.job_point.specs.Laws.{PointsAgree}
 use Rattle.job_point.proofs.SingleLemmas.{point_for_single}
-
--- ---- one answer
-
-same_fault : (e : PlanError) → IsSameFault e e
-same_fault (Singular (RulesOpen v)) = (v, refl)
-same_fault (Singular (NotBasis family v)) = (v, refl)
-same_fault (Singular (ZeroDivisor file line at)) = refl
-same_fault (RulesClash m r) = (m, r, refl)
-same_fault (Input f) = refl
-same_fault (Composite f) = refl
-same_fault (TooMany what count) = refl
-same_fault OutOfMemory = refl
-
-same_answer : {A : Type 0} (r q : Answer A) → r ≡ q → IsSameAnswer r q
-same_answer (Ok a) q e = sym e
-same_answer (Err x) q e = (x, sym e, same_fault x)
-
-names_as : {A B : Type 0} (p : ℕ) (e : PlanError) → NamesDivisor {A} p (Err e) → NamesDivisor {B} p (Err e)
-names_as p (Composite f) h = h
-names_as p (Singular cause) h = absurd h
-names_as p (RulesClash m r) h = absurd h
-names_as p (Input f) h = absurd h
-names_as p (TooMany what count) h = absurd h
-names_as p OutOfMemory h = absurd h
-
--- ---- one step and what follows it
-
-names_after : {A B : Type 0} (p : ℕ) (next : A → Step B) (x : Answer A) (r : Answer B) → NamesDivisor p x → After x next r → NamesDivisor p r
-names_after p next (Ok a) r d m = absurd d
-names_after {A} {B} p next (Err e) r d m = subst (λ (o : Answer B). NamesDivisor p o) (sym m) (names_as p e d)
-
-pub is_agrees : {A : Type 0} (p : ℕ) (answer : Answer A) → Agrees p (Is answer)
-is_agrees p answer r q h k = inl (same_answer r q (sym h ∙ k))
-
-after_agrees : {A B : Type 0} (p : ℕ) (next : A → Step B) → ((a : A) → Agrees p (next a)) → (x y : Answer A) (r q : Answer B) →
-    IsSameAnswer x y ⊎ (NamesDivisor p x ⊎ NamesDivisor p y) → After x next r → After y next q → IsSameAnswer r q ⊎ (NamesDivisor p r ⊎ NamesDivisor p q)
-after_agrees {A} {B} p next same (Ok a) y r q (inl e) m n = same a r q m (subst (λ (o : Answer A). After o next q) e n)
-after_agrees {A} {B} p next same (Err x) y r q (inl e) m n =
-    let named : q ≡ Err e.0 = subst (λ (o : Answer A). After o next q) e.1 n in
-    inl (subst (λ (o : Answer B). IsSameAnswer o q) (sym m) (e.0, named, e.2))
-after_agrees p next same x y r q (inr (inl d)) m n = inr (inl (names_after p next x r d m))
-after_agrees p next same x y r q (inr (inr d)) m n = inr (inr (names_after p next y q d n))
-
-pub then_agrees : {A B : Type 0} (p : ℕ) (first : Step A) (next : A → Step B) → Agrees p first → ((a : A) → Agrees p (next a)) → Agrees p (Then first next)
-then_agrees p first next one same r q h k = after_agrees p next same h.answer k.answer r q (one h.answer k.answer h.is k.is) h.after k.after
-
-pub each_agrees : {N A : Type 0} (p : ℕ) (step : List A → N → Step A) → ((found : List A) (item : N) → Agrees p (step found item)) → (found : List A) (items : List N) → Agrees p (Each step found items)
-each_agrees p step same found [] r q h k = inl (same_answer r q (h ∙ sym k))
-each_agrees p step same found (item ∷ items) r q h k =
-    then_agrees p (step found item) (λ a. Each step (found ++ a ∷ []) items) (same found item) (λ a. each_agrees p step same (found ++ a ∷ []) items) r q h k
+use Rattle.job_point.proofs.AgreeingSteps.{same_answer, is_agrees, then_agrees, each_agrees}
 
 -- ---- values
 
@@ -100,8 +48,8 @@ point_for_agrees law p externals rules = by
     by (Ok a) (Err (Singular (RulesOpen v))) h k = absurd (k.none a.products h.products)
     by (Err (Singular (RulesOpen v))) (Ok b) h k = absurd (h.none b.products k.products)
     by (Err (RulesClash m r)) (Err (RulesClash n s)) h k = inl (RulesClash n s, refl, (n, s, refl))
-    by (Err (RulesClash m r)) (Err (Singular (RulesOpen v))) h k = absurd (law p externals rules m r h k.open.met k.open.meets)
-    by (Err (Singular (RulesOpen v))) (Err (RulesClash m r)) h k = absurd (law p externals rules m r k h.open.met h.open.meets)
+    by (Err (RulesClash m r)) (Err (Singular (RulesOpen v))) h k = absurd (law p externals rules m r h k.shown.met k.shown.meets)
+    by (Err (Singular (RulesOpen v))) (Err (RulesClash m r)) h k = absurd (law p externals rules m r k h.shown.met h.shown.meets)
     by (Err (Singular (RulesOpen v))) (Err (Singular (RulesOpen w))) h k = inl (Singular (RulesOpen w), refl, (w, refl))
     by (Err (Composite f)) q h k = inr (inl h)
     by (Ok a) (Err (Composite g)) h k = inr (inr k)
@@ -138,7 +86,11 @@ point_agrees law clash p big residues kinematics =
 
 -- a dependence isn't zero
 no_zero : (vector : List ℕ) → HasLeadingOne vector → All (λ entry. entry ≡ 0) vector → ⊥
-no_zero vector leads zero = ?
+no_zero vector leads zero =
+    elim (cases_lt leads.place (length vector)) [
+      | inl inside ↦ let none = zero leads.place 0 inside in let one = leads.one in absurd (omega (arith, none, one))
+      | inr past ↦ let none = get_or_past vector leads.place 0 past in let one = leads.one in absurd (omega (arith, none, one))
+    ]
 
 basis_for_agrees : (p : ℕ) (point : Point) (number loops : ℕ) (denominators : List Denominator) → Agrees p (IsBasisFor p point number loops denominators)
 basis_for_agrees p point number loops denominators = by

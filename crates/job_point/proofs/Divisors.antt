@@ -1,8 +1,12 @@
 -- A composite modulus is named by its divisors alone: the values of expressions are residues, so that a common
 -- divisor of one and the modulus is less than the modulus.
-use Rattle.std.proofs.Common.{◌≡◌, ◌≢◌, ◌<◌, ◌≤◌, ⊤, ℕ, zero, suc, List, [], ◌∷◌, ◌++◌, length, All, Ok, Err, Some, None, Option, refl, sym, ap, ◌∙◌, subst, arith, get_or, slice_index, take, drop}
+use Rattle.std.proofs.Common.{◌≡◌, ◌≢◌, ◌<◌, ◌≤◌, ◌%◌, ℕ, zero, suc, List, [], ◌∷◌, ◌++◌, length, All, Ok, Err, Some, None, Option, refl, sym, ap, ◌∙◌, subst, arith, get_or, slice_index, take, drop, Bool, true, false, inl, inr}
+use Rattle.std.specs.Prelude.{⊤}
 use Rattle.std.specs.Int.{IsGcd, ◌∣◌}
-use Rattle.std.proofs.Math.Nat.{mod-lt}
+use Rattle.std.specs.Result.{is_ok}
+use Rattle.std.proofs.Math.Nat.{mod-lt, eq-zero_of_zero-dvd}
+use Rattle.std.proofs.lemmas.Bool.{true≢false, cases_lt}
+use Rattle.std.proofs.lemmas.List.{get_or_past}
 use Rattle.std.proofs.lemmas.Nat.Gcd.{le_of_dvd}
 use Rattle.std.proofs.lemmas.List.Elements.{All-push, All-append, All-take, All-drop, All-get_or}
 use Rattle.matrix_elimination.specs.Fault.{IsProperDivisor}
@@ -16,15 +20,16 @@ use Rattle.input_schema.specs.declared.faults.File.{File}
 use Rattle.kinematics_schema.specs.declared.content.Kinematics.{Kinematics}
 use Rattle.family_schema.specs.declared.content.Family.{Family}
 use Rattle.job_schema.specs.declared.points.Setting.{Setting}
-use Rattle.job_point.specs.declared.faults.PlanError.{PlanError}
+use Rattle.field_word.specs.declared.Composite.{Composite as FieldComposite}
 use Rattle.job_point.specs.declared.faults.PlanError.TheVariants.{Composite}
 use Rattle.job_point.specs.declared.values.Values.{Values}
-use Rattle.job_point.specs.Steps as step
 use Rattle.job_point.specs.Steps.{Answer, Step, Is, Then, Each}
+use Rattle.job_point.specs.Steps.{After as Followed}
 use Rattle.job_point.specs.Values.{answer_of, with_symbol, IsValueAt, AreSettingsAt, AreValuesAt}
 use Rattle.job_point.specs.Point.{AreRulesAt, IsPointFor, IsPointAt, AreDenominatorsAt, IsBasisFor, IsBasisAt}
 use Rattle.job_point.specs.Agreement.{NamesDivisorsAlone}
 use Rattle.job_point.specs.Laws.{PointsNameDivisors}
+use Rattle.job_point.proofs.AgreeingSteps.{is_names, then_names, each_names}
 
 -- ---- expressions
 
@@ -37,7 +42,7 @@ IsSound p (Err (value_fault.Composite c)) = IsProperDivisor p c.divisor
 proper : (p y d : ℕ) → y < p → y ≢ 0 → IsGcd y p d → d ≢ 1 → IsProperDivisor p d
 proper p y d below some g more =
     let most : d ≤ y = le_of_dvd (omega (arith, some)) g.0 in
-    let not_0 : d ≢ 0 = λ none. ? in
+    let not_0 : d ≢ 0 = λ none. some (eq-zero_of_zero-dvd (subst (λ n. n ∣ y) none g.0)) in
     record { above = omega (arith, more, not_0); below = omega (arith, most, below); divides = g.1 }
 
 sound_after : (p : ℕ) (a r : Outcome) (P : ℕ → Outcome → Type 0) → IsSound p a → ((x : ℕ) (q : Outcome) → x < p → P x q → IsSound p q) → After a P r → IsSound p r
@@ -50,7 +55,11 @@ sound_quotient p at x y (Err (value_fault.ZeroDivisor a)) some below h = tt
 sound_quotient p at x y (Err (value_fault.Composite c)) some below h = proper p y c.divisor below h.0 h.1 h.2
 
 at_most : (p : ℕ) (rs : List ℕ) (i : ℕ) → 0 < p → All (λ r. r < p) rs → slice_index rs i < p
-at_most p rs i some below = ?
+at_most p rs i some below =
+    elim (cases_lt i (length rs)) [
+      | inl inside ↦ below i 0 inside
+      | inr past ↦ omega (arith, get_or_past rs i 0 past)
+    ]
 
 residue : (p n : ℕ) (r : Outcome) → 0 < p → r ≡ Ok (n % p) → IsSound p r
 residue p n r some e = subst (IsSound p) (sym e) (mod-lt n some)
@@ -79,44 +88,45 @@ sound p rs (power t n) r some below h = sound_after p h.0 r _ (sound p rs t h.0 
 abbrev Yields : {A : Type 0} → (A → Type 0) → Step A → Type 0
 Yields {A} P step = (a : A) → step (Ok a) → P a
 
+abbrev value_or_0 : Answer ℕ → ℕ
+value_or_0 (Ok v) = v
+value_or_0 (Err e) = 0
+
+abbrev is_composite : Answer ℕ → Bool
+is_composite (Err (Composite f)) = true
+is_composite _ = false
+
+abbrev divisor_in : Answer ℕ → ℕ
+divisor_in (Err (Composite f)) = f.divisor
+divisor_in _ = 0
+
+told_below : (p : ℕ) (file : File) (line v : ℕ) (o : Outcome) → IsSound p o → answer_of file line o ≡ Ok v → v < p
+told_below p file line v (Ok w) low e = subst (λ n. n < p) (ap value_or_0 e) low
+told_below p file line v (Err (value_fault.ZeroDivisor at)) low e = absurd (true≢false (sym (ap is_ok e)))
+told_below p file line v (Err (value_fault.Composite c)) low e = absurd (true≢false (sym (ap is_ok e)))
+
+told_names : (p : ℕ) (file : File) (line : ℕ) (fault : FieldComposite) (o : Outcome) → IsSound p o → answer_of file line o ≡ Err (Composite fault) → IsProperDivisor p fault.divisor
+told_names p file line fault (Ok w) low e = absurd (true≢false (ap is_ok e))
+told_names p file line fault (Err (value_fault.ZeroDivisor at)) low e = absurd (true≢false (sym (ap is_composite e)))
+told_names p file line fault (Err (value_fault.Composite c)) low e = subst (IsProperDivisor p) (ap divisor_in e) low
+
 value_below : (p : ℕ) (residues : List ℕ) (file : File) (line : ℕ) (tree : Tree) → 0 < p → All (λ v. v < p) residues → Yields (λ v. v < p) (IsValueAt p residues file line tree)
-value_below p residues file line tree some below v h = by h.outcome (sound p residues tree h.outcome some below h.is) h.told
-  where
-    by : (o : Outcome) → IsSound p o → answer_of file line o ≡ Ok v → v < p
-    by (Ok w) low e = ?
-    by (Err f) low e = ?
+value_below p residues file line tree some below v h = told_below p file line v h.outcome (sound p residues tree h.outcome some below h.is) h.told
 
 value_names : (p : ℕ) (residues : List ℕ) (file : File) (line : ℕ) (tree : Tree) → 0 < p → All (λ v. v < p) residues → NamesDivisorsAlone p (IsValueAt p residues file line tree)
-value_names p residues file line tree some below fault h = by h.outcome (sound p residues tree h.outcome some below h.is) h.told
-  where
-    by : (o : Outcome) → IsSound p o → answer_of file line o ≡ Err (Composite fault) → IsProperDivisor p fault.divisor
-    by (Ok w) low e = ?
-    by (Err (value_fault.ZeroDivisor at)) low e = ?
-    by (Err (value_fault.Composite c)) low e = ?
+value_names p residues file line tree some below fault h = told_names p file line fault h.outcome (sound p residues tree h.outcome some below h.is) h.told
 
-after_names : {A B : Type 0} (p : ℕ) (first : Step A) (next : A → Step B) → NamesDivisorsAlone p first → ((a : A) → first (Ok a) → NamesDivisorsAlone p (next a)) →
-    (x : Answer A) (fault : _) → first x → step.After x next (Err (Composite fault)) → IsProperDivisor p fault.divisor
-after_names p first next one more (Ok a) fault h k = more a h fault k
-after_names {A} p first next one more (Err e) fault h k = ?
-
-then_names : {A B : Type 0} (p : ℕ) (first : Step A) (next : A → Step B) → NamesDivisorsAlone p first → ((a : A) → first (Ok a) → NamesDivisorsAlone p (next a)) → NamesDivisorsAlone p (Then first next)
-then_names p first next one more fault h = after_names p first next one more h.answer fault h.is h.after
-
-is_names : {A : Type 0} (p : ℕ) (a : A) → NamesDivisorsAlone p (Is (Ok a))
-is_names p a fault h = ?
-
-each_names : {N A : Type 0} (p : ℕ) (step : List A → N → Step A) → ((found : List A) (item : N) → NamesDivisorsAlone p (step found item)) → (found : List A) (items : List N) → NamesDivisorsAlone p (Each step found items)
-each_names p step one found [] fault h = ?
-each_names p step one found (item ∷ items) fault h =
-    then_names p (step found item) (λ a. Each step (found ++ a ∷ []) items) (one found item) (λ a is. each_names p step one (found ++ a ∷ []) items) fault h
+-- what follows a value of which this is true
+yields_after : {A B : Type 0} (Q : A → Type 0) (next : A → Step B) {P : Type 0} (r : B) (x : Answer A) → ((a : A) → x ≡ Ok a → Q a) → ((a : A) → Q a → next a (Ok r) → P) → Followed x next (Ok r) → P
+yields_after Q next r (Ok a) is go h = go a (is a refl) h
+yields_after Q next r (Err e) is go h = absurd (true≢false (ap is_ok h))
 
 each_yields : {N A : Type 0} (P : A → Type 0) (step : List A → N → Step A) → ((found : List A) (item : N) → Yields P (step found item)) → (found : List A) (items : List N) → All P found → Yields (All P) (Each step found items)
-each_yields P step one found [] all r h = ?
-each_yields {N} {A} P step one found (item ∷ items) all r h = by h.answer h.is h.after
-  where
-    by : (x : Answer A) → step found item x → step.After x (λ a. Each step (found ++ a ∷ []) items) (Ok r) → All P r
-    by (Ok a) is after = each_yields P step one (found ++ a ∷ []) items (All-push P found a all (one found item a is)) r after
-    by (Err e) is after = ?
+each_yields P step one found [] all r h = let e : found ≡ r = cc in subst (All P) e all
+each_yields {N} {A} P step one found (item ∷ items) all r h =
+    yields_after (λ a. All P (found ++ a ∷ [])) (λ a. Each step (found ++ a ∷ []) items) r h.answer
+    (λ a e. All-push P found a all (one found item a (subst (λ (o : Answer A). step found item o) e h.is)))
+    (λ a more next. each_yields P step one (found ++ a ∷ []) items more r next) h.after
 
 -- ---- what a job says
 
@@ -125,8 +135,9 @@ settings_below p settings some = each_yields (λ v. v < p) _ (λ found setting. 
 
 symbol_below : (p : ℕ) (symbol : Option ℕ) (values : List ℕ) → 1 < p → All (λ v. v < p) values → All (λ v. v < p) (with_symbol symbol values)
 symbol_below p None values big all = all
-symbol_below p (Some place) values big all =
-    All-append (λ v. v < p) (take place values ++ 1 ∷ []) (drop place values) (All-push (λ v. v < p) (take place values) 1 (All-take (λ v. v < p) place values all) big) (All-drop (λ v. v < p) place values all)
+symbol_below p (Some at) values big all =
+    All-append (λ v. v < p) (take at values) (1 ∷ drop at values) (All-take (λ v. v < p) at values all)
+    (All-append (λ v. v < p) (1 ∷ []) (drop at values) (All-push (λ v. v < p) [] 1 (λ i d low. absurd (omega (arith, low))) big) (All-drop (λ v. v < p) at values all))
 
 values_name : (p : ℕ) → 1 < p → (symbol : Option ℕ) (settings : List Setting) → NamesDivisorsAlone p (AreValuesAt p symbol settings)
 values_name p big symbol [] fault h = absurd h
@@ -136,8 +147,19 @@ values_name p big symbol (dimension ∷ others) fault h =
     then_names p _ _ (each_names p _ (λ found setting. value_names p [] _ _ _ some none) [] others) (λ values is.
     then_names p _ _ (value_names p [] _ _ _ some none) (λ d is. is_names p _)) fault h
 
+abbrev values_or : Values → Answer Values → Values
+values_or d (Ok v) = v
+values_or d (Err e) = d
+
 values_below : (p : ℕ) → 1 < p → (symbol : Option ℕ) (settings : List Setting) → Yields (λ (values : Values). All (λ v. v < p) values.residues) (AreValuesAt p symbol settings)
-values_below p big symbol settings values h = ?
+values_below p big symbol [] values h = absurd h
+values_below p big symbol (dimension ∷ others) values h =
+    let some : 0 < p = omega (arith, big) in
+    yields_after (All (λ v. v < p)) _ values h.answer
+    (λ found e. settings_below p others some found (subst (λ (o : Answer (List ℕ)). AreSettingsAt p others o) e h.is))
+    (λ found all next. yields_after (λ (d : ℕ). ⊤) _ values next.answer (λ d e. tt)
+    (λ d known last. let same : values ≡ record { residues = with_symbol symbol found; dimension = d } = ap (λ o. values_or values o) (sym last) in
+    subst (λ (v : Values). All (λ r. r < p) v.residues) (sym same) (symbol_below p symbol found big all)) next.after) h.after
 
 point_names : (p : ℕ) → 1 < p → (residues : List ℕ) (kinematics : Kinematics) → All (λ v. v < p) residues → NamesDivisorsAlone p (IsPointAt p residues kinematics)
 point_names p big residues kinematics below =
@@ -146,8 +168,8 @@ point_names p big residues kinematics below =
     (each_names p _ (λ found rule. then_names p _ _ (value_names p residues _ _ _ some below) (λ value is. is_names p _)) [] kinematics.rules)
     (λ rules is fault h. h)
 
-basis_names : (p : ℕ) → 1 < p → (residues : List ℕ) (point : Point) (number : ℕ) (family : Family) → All (λ v. v < p) residues → NamesDivisorsAlone p (IsBasisAt p residues point number family)
-basis_names p big residues point number family below =
+basis_names : (p : ℕ) → 1 < p → (residues : List ℕ) (point : Point) (k : ℕ) (family : Family) → All (λ v. v < p) residues → NamesDivisorsAlone p (IsBasisAt p residues point k family)
+basis_names p big residues point k family below =
     let some : 0 < p = omega (arith, big) in
     then_names p (AreDenominatorsAt p residues family.propagators) _
     (each_names p _ (λ found propagator. then_names p _ _ (value_names p residues _ _ _ some below) (λ mass is. is_names p _)) [] family.propagators)

@@ -2,5 +2,6 @@ pub mod StepLemmas
 mod ListLemmas
 mod RuleLemmas
 mod SingleLemmas
+pub mod AgreeingSteps
 mod Agreement
 mod Divisors

@@ -32,7 +32,7 @@ values_single law p big symbol [] one other h k = absurd h
 values_single law p big symbol (dimension ∷ others) one other h k =
     then_single _ _ (settings_single law p big others) (λ values. then_single _ _ (value_single law p big _ _ _ _) (λ d. is_single _)) one other h k
 
-point_for_single : (p externals : ℕ) (rules : List Rule) → IsSingle (IsPointFor p externals rules)
+pub point_for_single : (p externals : ℕ) (rules : List Rule) → IsSingle (IsPointFor p externals rules)
 point_for_single p externals rules one other h k =
     let made : ℕ → ℕ → List ℕ → Point = λ m n products. record { modulus = m; externals = n; products = products } in
     ap (λ m. made m one.externals one.products) (h.modulus ∙ sym k.modulus)

@@ -49,7 +49,7 @@ point_error_of point_fault.OutOfMemory = plan_error.OutOfMemory
 
 -- the vector shows that the rules leave a product open, so that no table is the only one that meets them
 pub record LeaveOpen (p externals : ℕ) (rules : List Rule) (vector : List ℕ) : Type 0 where
-  pub open : IsRulesOpen p externals rules vector
+  pub shown : IsRulesOpen p externals rules vector
   pub none : (products : List ℕ) → IsPointOf p externals rules products → ⊥
 
 -- why rules have no point, or none was found

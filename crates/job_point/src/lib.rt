@@ -11,7 +11,7 @@ mod rules;
 mod values;
 
 pub use faults::{Excess, PlanError, Singular};
-pub use laws::points_are_single;
+pub use laws::{points_agree, points_are_single};
 pub use points::{AtPoint, at_point};
 
 #[cfg(test)]

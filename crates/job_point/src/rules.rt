@@ -67,6 +67,8 @@ fn point_of(
     requires rules { All (IsRule modulus.now externals) rules.now }
     ensures { Meets (IsPointFor modulus.now externals rules.now) result }
 {
+    // The law asks for a modulus above 1, which is known once it is read.
+    let _p = modulus.value();
     refused_rules_have_no_point();
     match point(alloc, rules, externals, modulus) {
         Ok(point) => Ok(point),

@@ -66,3 +66,8 @@ pub record IsFitting (shapes : List Shape) (spec : Spec) : Type 0 where
 abbrev pub OneListAscends : Order → Type 0
 OneListAscends order =
     (xs ys : List Integral) → Ascends order xs → Ascends order ys → ((x : Integral) → Contains xs x ↔ Contains ys x) → xs ≡ ys
+
+-- a list that ascends is no longer than another that has all of its members
+abbrev pub NoListIsLonger : Order → Type 0
+NoListIsLonger order =
+    (xs ys : List Integral) → Ascends order xs → Ascends order ys → ((x : Integral) → Contains xs x → Contains ys x) → length xs ≤ length ys

@@ -1,6 +1,6 @@
-//! A law of the list of seeds: the contract of a function that does nothing.
+//! Laws of the list of seeds: the contracts of functions that do nothing.
 
-ghost use Rattle.seed_sets.specs.Seeds.{OneListAscends};
+ghost use Rattle.seed_sets.specs.Seeds.{OneListAscends, NoListIsLonger};
 
 use integral_index::Order;
 
@@ -8,4 +8,10 @@ use integral_index::Order;
 /// leaves no choice.
 pub fn one_list_ascends(order: Order)
     ensures { OneListAscends order }
+{}
+
+/// A list that ascends is no longer than another that has all of its members, and perhaps more: so where there
+/// are more seeds than are allowed, no list of all of them is short enough.
+pub fn no_list_is_longer(order: Order)
+    ensures { NoListIsLonger order }
 {}
