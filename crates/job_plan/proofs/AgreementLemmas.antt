@@ -1,7 +1,11 @@
 -- The answers for one outline and the same texts are the same, but where one names a divisor of the modulus.
-use Rattle.std.proofs.Common.{◌≡◌, ◌<◌, ◌≤◌, ℕ, List, [], length, Some, Ok, Err, inl, inr, refl, sym, ap, ◌∙◌, arith}
+use Rattle.std.proofs.Common.{◌≡◌, ◌<◌, ◌≤◌, ℕ, Bool, true, false, List, [], length, Some, Ok, Err, inl, inr, refl, sym, ap, ◌∙◌, arith}
 use Rattle.std.specs.Prelude.{slice_index_or}
+use Rattle.std.specs.Result.{is_ok}
+use Rattle.std.proofs.lemmas.Bool.{true≢false}
+use Rattle.field_word.specs.declared.Composite.{Composite as FieldComposite}
 use Rattle.yaml_text.specs.Lines.{Bytes}
+use Rattle.input_schema.specs.Readings.{Outcome}
 use Rattle.integral_index.specs.Integral.{Integral}
 use Rattle.integral_index.specs.declared.Order.TheVariants.{Standard}
 use Rattle.seed_sets.specs.Seeds.{OneListAscends, NoListIsLonger, AreMore}
@@ -10,8 +14,10 @@ use Rattle.family_schema.specs.declared.content.Family.{Family}
 use Rattle.job_schema.specs.declared.selections.ListFile.{ListFile}
 use Rattle.list_schema.specs.Lists.{list_file}
 use Rattle.job_point.specs.declared.faults.Excess.{Excess}
+use Rattle.job_point.specs.declared.faults.Excess.TheVariants.{Seeds, Selected}
 use Rattle.job_point.specs.declared.faults.PlanError.TheVariants.{Input, Singular, RulesClash, Composite, TooMany, OutOfMemory}
 use Rattle.job_point.specs.declared.points.AtPoint.{AtPoint}
+use Rattle.job_point.specs.Steps.{Answer}
 use Rattle.job_point.specs.Agreement.{Agrees, NamesDivisorsAlone}
 use Rattle.job_point.specs.Laws.{PointsAgree, PointsNameDivisors}
 use Rattle.job_point.proofs.AgreeingSteps.{same_answer, is_agrees, then_agrees, each_agrees, then_names, is_names, each_names}
@@ -46,10 +52,10 @@ gathers_agree law longer p what Kind = by
   where
     by : Agrees p (Gathers what Kind)
     by (Ok a) (Ok b) h k = inl (ap Ok (gathers_single law what Kind b a k h))
-    by (Ok a) (Err (TooMany w count)) h k = absurd (too_many longer Kind a h k.2.1)
-    by (Err (TooMany w count)) (Ok b) h k = absurd (too_many longer Kind b k h.2.1)
+    by (Ok a) (Err (TooMany w count)) h k = absurd (too_many longer Kind a h k.2)
+    by (Err (TooMany w count)) (Ok b) h k = absurd (too_many longer Kind b k h.2)
     by (Err (TooMany w count)) (Err (TooMany v other)) h k =
-        inl (same_answer (Err (TooMany w count)) (Err (TooMany v other)) ((λ i. Err (TooMany ((h.0 ∙ sym k.0) i) ((h.2.0 ∙ sym k.2.0) i)))))
+        inl (same_answer (Err (TooMany w count)) (Err (TooMany v other)) ((λ i. Err (TooMany ((h.0 ∙ sym k.0) i) ((h.1 ∙ sym k.1) i)))))
     by (Err (Singular cause)) q h k = absurd h
     by (Err (RulesClash m r)) q h k = absurd h
     by (Err (Input f)) q h k = absurd h
@@ -71,10 +77,10 @@ few_agrees p terms = by
   where
     by : Agrees p (AreFewTerms terms)
     by (Ok a) (Ok b) h k = inl refl
-    by (Ok a) (Err (TooMany w count)) h k = let many = k.2.1 in absurd (omega (arith, h, many))
-    by (Err (TooMany w count)) (Ok b) h k = let many = h.2.1 in absurd (omega (arith, k, many))
+    by (Ok a) (Err (TooMany w count)) h k = let many = k.2 in absurd (omega (arith, h, many))
+    by (Err (TooMany w count)) (Ok b) h k = let many = h.2 in absurd (omega (arith, k, many))
     by (Err (TooMany w count)) (Err (TooMany v other)) h k =
-        inl (same_answer (Err (TooMany w count)) (Err (TooMany v other)) ((λ i. Err (TooMany ((h.0 ∙ sym k.0) i) ((h.2.0 ∙ sym k.2.0) i)))))
+        inl (same_answer (Err (TooMany w count)) (Err (TooMany v other)) ((λ i. Err (TooMany ((h.0 ∙ sym k.0) i) ((h.1 ∙ sym k.1) i)))))
     by (Err (Singular cause)) q h k = absurd h
     by (Err (RulesClash m r)) q h k = absurd h
     by (Err (Input f)) q h k = absurd h
@@ -96,8 +102,8 @@ few_agrees p terms = by
 integrals_agree : OneListAscends Standard → NoListIsLonger Standard → (p : ℕ) (outline : Outline) (texts : List Bytes) → Agrees p (AreIntegrals outline texts)
 integrals_agree law longer p outline texts =
     then_agrees p _ _ (each_agrees p _ (λ found listed. list_agrees p outline.families (length found) listed (slice_index_or texts (length found) [])) [] outline.select.files) (λ lists.
-    then_agrees p _ _ (gathers_agree law longer p _ _) (λ seeds.
-    then_agrees p _ _ (gathers_agree law longer p _ _) (λ selection.
+    then_agrees p _ _ (gathers_agree law longer p Seeds _) (λ seeds.
+    then_agrees p _ _ (gathers_agree law longer p Selected _) (λ selection.
     then_agrees p _ _ (few_agrees p _) (λ _. is_agrees p _))))
 
 plan_of_agrees : (p : ℕ) (families : List Family) (integrals : Integrals) (at : AtPoint) → Agrees p (HasPlan families integrals at)
@@ -113,8 +119,16 @@ plans_agree law longer points outline texts big =
 
 -- ---- divisors
 
+abbrev is_composite : {A : Type 0} → Answer A → Bool
+is_composite (Err (Composite f)) = true
+is_composite r = false
+
+never_composite : {A : Type 0} (o : Outcome A) (fault : FieldComposite) → told o ≡ Err (Composite fault) → ⊥
+never_composite (Ok a) fault e = true≢false (ap is_ok e)
+never_composite (Err f) fault e = true≢false (sym (ap is_composite e))
+
 lists_name : (p : ℕ) (families : List Family) (number : ℕ) (listed : ListFile) (text : Bytes) → NamesDivisorsAlone p (IsListRead families number listed text)
-lists_name p families number listed text fault h = ?
+lists_name p families number listed text fault h = absurd (never_composite _ fault h.is)
 
 integrals_name : (p : ℕ) (outline : Outline) (texts : List Bytes) → NamesDivisorsAlone p (AreIntegrals outline texts)
 integrals_name p outline texts =
