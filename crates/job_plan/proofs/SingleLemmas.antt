@@ -13,6 +13,7 @@ use Rattle.family_schema.specs.declared.content.Family.{Family}
 use Rattle.job_schema.specs.declared.selections.ListFile.{ListFile}
 use Rattle.list_schema.specs.Lists.{list_file}
 use Rattle.job_point.specs.declared.faults.Excess.{Excess}
+use Rattle.job_point.specs.declared.faults.Excess.TheVariants.{Seeds, Selected}
 use Rattle.job_point.specs.declared.points.AtPoint.{AtPoint}
 use Rattle.job_point.specs.Steps.{IsSingle}
 use Rattle.job_point.specs.Laws.{PointsAreSingle}
@@ -116,8 +117,8 @@ plan_of_single families integrals at one other h k =
 integrals_single : OneListAscends Standard → (outline : Outline) (texts : List Bytes) → IsSingle (AreIntegrals outline texts)
 integrals_single law outline texts =
     then_single _ _ (each_single _ (λ found listed. list_single outline.families (length found) listed (slice_index_or texts (length found) [])) [] outline.select.files) (λ lists.
-    then_single _ _ (gathers_single law _ _) (λ seeds.
-    then_single _ _ (gathers_single law _ _) (λ selection.
+    then_single _ _ (gathers_single law Seeds _) (λ seeds.
+    then_single _ _ (gathers_single law Selected _) (λ selection.
     then_single _ _ (few_single _) (λ _. is_single _))))
 
 pub plan_single : OneListAscends Standard → PointsAreSingle → PlanIsSingle
