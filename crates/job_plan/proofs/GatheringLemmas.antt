@@ -17,12 +17,19 @@ use Rattle.job_point.specs.declared.faults.Excess.{Excess}
 use Rattle.job_point.specs.declared.faults.PlanError.{PlanError}
 use Rattle.job_point.specs.declared.faults.PlanError.TheVariants.{Input, Singular, RulesClash, Composite, TooMany, OutOfMemory}
 use Rattle.job_point.specs.Steps.{Answer, Refuses, Meets}
-use Rattle.job_plan.specs.Shapes.{shape_of, shapes_of}
-use Rattle.job_plan.specs.Gathering.{most_integrals, IsListed, IsSelected, AreAll, HasExcess, Gathers}
+use Rattle.job_point.specs.declared.faults.Excess.TheVariants.{Seeds, Selected}
+use Rattle.job_point.proofs.StepLemmas.{then_is, then_refuses, then_refuses_later}
+use Rattle.yaml_text.specs.Lines.{Bytes}
+use Rattle.kinematics_schema.specs.declared.content.Kinematics.{Kinematics}
+use Rattle.job_schema.specs.declared.selections.ListFile.{ListFile}
+use Rattle.job_plan.specs.Outlines.{Outline}
+use Rattle.job_plan.specs.Shapes.{shape_of, shapes_of, terms_of}
+use Rattle.job_plan.specs.ListFiles.{AreListsRead}
+use Rattle.job_plan.specs.Gathering.{most_integrals, IsListed, IsSelected, AreAll, HasExcess, Gathers, AreFewTerms, AreIntegrals}
 use Rattle.job_plan.specs.Steps.{told}
 
 -- what a list of integrals answers here
-pub meets_list : (what : Excess) (answer : Result (Vec Integral) SeedFault) (Kind : Integral → Type 0) →
+pub meets_list : {Z : Type 0} (what : Excess) (answer : Result (Vec Integral Z) SeedFault) (Kind : Integral → Type 0) →
     IfOk answer (λ found. Ascends Standard found.items) → IfOk answer (λ found. (x : Integral) → Contains found.items x ↔ Kind x) → IfOk answer (λ found. length found.items ≤ most_integrals) →
     IfErr answer (IsCause Standard most_integrals Kind) → Meets (Gathers what Kind) (told what answer)
 meets_list what (Ok found) Kind up same few many = record { ascends = up; members = same; few = few }
@@ -94,3 +101,21 @@ seeds_placed families specs seeds h =
     let seed = (h.members x).0 m in
     let low : seed.spec.family < length families = subst (λ (n : ℕ). seed.spec.family < n) (length-map families shape_of) seed.shaped.0 in
     subst (λ (n : ℕ). n < length families) (sym seed.seed.family) low)
+
+-- ---- the last step
+
+-- the lists, the seeds and the selection of an outline
+pub record AreFound (outline : Outline) (texts : List Bytes) (lists : List (List Integral)) (seeds selection : List Integral) : Type 0 where
+  pub read : AreListsRead outline.families outline.select.files texts (Ok lists)
+  pub seeded : AreAll (IsSeedOfSome outline.reduce (shapes_of outline.families)) seeds
+  pub selected : AreAll (IsSelected outline.select.specs (shapes_of outline.families) lists) selection
+
+pub integrals_found : (outline : Outline) (texts : List Bytes) (lists : List (List Integral)) (seeds selection : List Integral) → AreFound outline texts lists seeds selection →
+    AreFewTerms (terms_of outline.kinematics outline.families seeds) (Ok tt) → AreIntegrals outline texts (Ok (record { seeds = seeds; selection = selection }))
+integrals_found outline texts lists seeds selection h few =
+    then_is _ _ lists _ h.read (then_is _ _ seeds _ h.seeded (then_is _ _ selection _ h.selected (then_is _ _ tt _ few refl)))
+
+pub integrals_refused : (outline : Outline) (texts : List Bytes) (lists : List (List Integral)) (seeds selection : List Integral) → AreFound outline texts lists seeds selection →
+    (e : PlanError) → Refuses (AreFewTerms (terms_of outline.kinematics outline.families seeds)) e → Refuses (AreIntegrals outline texts) e
+integrals_refused outline texts lists seeds selection h e many =
+    then_refuses_later _ _ lists e h.read (then_refuses_later _ _ seeds e h.seeded (then_refuses_later _ _ selection e h.selected (then_refuses _ _ e many)))

@@ -24,7 +24,6 @@ use Rattle.input_schema.specs.Numbers.{wide_number, in_range}
 use Rattle.family_schema.specs.declared.content.Family.{Family}
 use Rattle.job_schema.specs.declared.frames.Frame.{Frame}
 use Rattle.job_schema.specs.declared.groups.Group.{Group}
-use Rattle.job_schema.specs.declared.groups.Bounds.{Bounds}
 use Rattle.job_schema.specs.declared.selections.ListFile.{ListFile}
 use Rattle.job_schema.specs.Readings.{each}
 use Rattle.job_schema.specs.Specs.{no_limit, topologies, frame_at, fits, is_covered, sector_at, sector, sectors, bound, optional_bound, needed_bound, bounds, group_families, group_sectors, group_of, group_pairs, group, spec_of, specs_of_group, specs_of_groups, pair_count, limited, specs}
@@ -37,11 +36,11 @@ use Rattle.job_plan.proofs.Outcomes.{behind, behind_known, each_all, tested, gua
 
 place_below : (names : List Bytes) (text : Bytes) → is_among names text ≡ true → place_of names text < length names
 place_below [] text h = absurd (let no : false ≡ true = h in cc)
-place_below (name ∷ names) text h = by (bytes_eq name text) h
+place_below (name ∷ names) text h = by (bytes_eq name text) h (place_below names text)
   where
-    by : (b : Bool) → (b || is_among names text) ≡ true → cond b 0 (place_of names text + 1) < suc (length names)
-    by true h = omega arith
-    by false h = let low = place_below names text h in omega (arith, low)
+    by : (b : Bool) → (b || is_among names text) ≡ true → (is_among names text ≡ true → place_of names text < length names) → cond b 0 (place_of names text + 1) < suc (length names)
+    by true h later = omega arith
+    by false h later = let low = later h in omega (arith, low)
 
 reference_within : (names : List Bytes) (node : Tree) → IfOk (reference Jobs node names) (λ place. place < length names)
 reference_within names node =
@@ -93,9 +92,9 @@ record AreSmall (r s : ℕ) (d : Option ℕ) : Type 0 where
 
 bounds_small : (line : ℕ) (pairs : List Pair) → IfOk (bounds line pairs) (λ b. AreSmall b.r b.s b.d)
 bounds_small line pairs =
-    behind_known (needed_bound line pairs (codes "r")) _ (λ n. n ≤ 100) (λ (b : Bounds). AreSmall b.r b.s b.d) (needed_bound_small line pairs (codes "r")) (λ r low.
-    behind_known (needed_bound line pairs (codes "s")) _ (λ n. n ≤ 100) (λ (b : Bounds). AreSmall b.r b.s b.d) (needed_bound_small line pairs (codes "s")) (λ s few.
-    behind_known (optional_bound (value_of pairs (codes "d"))) (λ d. Ok (record { r = r; s = s; d = d })) (λ d. IfSome d (λ n. n ≤ 100)) (λ (b : Bounds). AreSmall b.r b.s b.d) (optional_bound_small (value_of pairs (codes "d"))) (λ d h.
+    behind_known (needed_bound line pairs (codes "r")) _ (λ n. n ≤ 100) _ (needed_bound_small line pairs (codes "r")) (λ r low.
+    behind_known (needed_bound line pairs (codes "s")) _ (λ n. n ≤ 100) _ (needed_bound_small line pairs (codes "s")) (λ s few.
+    behind_known (optional_bound (value_of pairs (codes "d"))) _ (λ d. IfSome d (λ n. n ≤ 100)) _ (optional_bound_small (value_of pairs (codes "d"))) (λ d h.
     record { r_small = low; s_small = few; d_small = h })))
 
 -- ---- items

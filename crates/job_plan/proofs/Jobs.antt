@@ -76,7 +76,7 @@ point_counts names node =
 
 -- ---- the job
 
-record IsJob (families : List Family) (parameters : List Bytes) (job : Job) : Type 0 where
+pub record IsJob (families : List Family) (parameters : List Bytes) (job : Job) : Type 0 where
   pub reduce_fits : All (IsFitting (shapes_of families)) job.reduce
   pub select_fits : IsSelection families job.select
   pub settings : length job.point.settings ≡ length parameters

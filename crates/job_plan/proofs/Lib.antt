@@ -3,6 +3,7 @@ pub mod JobSpecs
 pub mod Jobs
 pub mod FamilyLemmas
 pub mod PlanLemmas
+pub mod ListLemmas
 pub mod ShapeLemmas
 pub mod GatheringLemmas
 pub mod SeedLemmas

@@ -59,11 +59,11 @@ each_counts : {N A : Type 0} (read : N → Outcome A) (found : List A) (parts : 
 each_counts read found [] = omega arith
 each_counts {N} {A} read found (part ∷ parts) =
     behind (read part) (λ a. list_reading.each read (found ++ a ∷ []) parts) (λ all. length all ≡ length found + length (part ∷ parts)) (λ a.
-    weaker (list_reading.each read (found ++ a ∷ []) parts) (each_counts read (found ++ a ∷ []) parts) (length-append found (a ∷ [])))
+    weaker a (list_reading.each read (found ++ a ∷ []) parts) (each_counts read (found ++ a ∷ []) parts) (length-append found (a ∷ [])))
   where
-    weaker : {a : A} (o : Outcome (List A)) → IfOk o (λ all. length all ≡ length (found ++ a ∷ []) + length parts) → length (found ++ a ∷ []) ≡ length found + 1 → IfOk o (λ all. length all ≡ length found + length (part ∷ parts))
-    weaker (Ok all) h e = omega (arith, h, e)
-    weaker (Err f) h e = tt
+    weaker : (a : A) (o : Outcome (List A)) → IfOk o (λ all. length all ≡ length (found ++ a ∷ []) + length parts) → length (found ++ a ∷ []) ≡ length found + 1 → IfOk o (λ all. length all ≡ length found + length (part ∷ parts))
+    weaker a (Ok all) h e = omega (arith, h, e)
+    weaker a (Err f) h e = tt
 
 each_all : {N A : Type 0} (read : N → Outcome A) (P : A → Type 0) → ((n : N) → IfOk (read n) P) → (found : List A) (parts : List N) → All P found → IfOk (list_reading.each read found parts) (All P)
 each_all read P one found [] all = all

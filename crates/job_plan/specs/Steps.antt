@@ -22,6 +22,6 @@ excess what (seed_fault.TooMany count) = TooMany what count
 excess what seed_fault.OutOfMemory = OutOfMemory
 
 -- what was listed, or why it wasn't
-abbrev pub told : Excess → Result (Vec Integral) SeedFault → Result (List Integral) PlanError
+abbrev pub told : {Z : Type 0} → Excess → Result (Vec Integral Z) SeedFault → Result (List Integral) PlanError
 told what (Ok found) = Ok found.items
 told what (Err fault) = Err (excess what fault)

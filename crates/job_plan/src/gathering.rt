@@ -1,6 +1,6 @@
 //! Gathers the seeds and the selection of a job.
 
-ghost use Rattle.std.specs.Prelude.{◌≡◌, ◌<◌, ◌≤◌, ◌++◌, All, IfOk, IfErr, OnOk, length, map};
+ghost use Rattle.std.specs.Prelude.{◌≡◌, ◌<◌, ◌≤◌, ◌^◌, ◌++◌, All, IfOk, IfErr, OnOk, length, map};
 ghost use Rattle.std.specs.List.{AllZip, flat_map};
 ghost use Rattle.seed_sets.specs.Seeds.{IsFitting, IsSeedOfSome};
 ghost use Rattle.family_schema.specs.Sound as family_file;

@@ -1,6 +1,36 @@
-use Rattle.job_plan.proofs.ShapeLemmas.{families_wide, families_narrow}
-use Rattle.job_plan.proofs.GatheringLemmas.{seeds_placed}
+use Rattle.std.proofs.Common.{◌≡◌, ◌∙◌, List, map, ap, sym}
+use Rattle.job_point.proofs.StepLemmas.{refused}
+use Rattle.job_plan.specs.Gathering.{AreIntegrals}
+use Rattle.job_plan.specs.Outlines.{Outline}
+use Rattle.job_plan.proofs.GatheringLemmas.{AreFound, integrals_found, integrals_refused, seeds_placed}
 use Rattle.job_plan.proofs.gathering.integrals_of.Goals as goal
 
+pub test_terms-requires-clause-seeds : goal.test_terms-requires-clause-seeds
+test_terms-requires-clause-seeds c = rw c.as_slice-4.ensures (seeds_placed c.families-families.result.now _ _ c.in_ok-seeds.ensures)
+
+pub returns-in_err-test_terms : goal.returns-in_err-test_terms
+returns-in_err-test_terms c =
+    let outline = c.args.outline.now in
+    let files = c.as_slice.ensures ∙ ap (λ (o : Outline). o.select.files) c.outline.view_is in
+    let reduce = c.as_slice-reduce.ensures ∙ ap (λ (o : Outline). o.reduce) c.outline.view_is in
+    let specs = c.as_slice-2.ensures ∙ ap (λ (o : Outline). o.select.specs) c.outline.view_is in
+    refused (AreIntegrals outline (map (λ text. text.items) c.args.texts.now)) _ _ c.from_residual-in_err-test_terms.ensures.1
+    (integrals_refused outline (map (λ text. text.items) c.args.texts.now) c.in_ok-lists.lists c.in_ok-seeds.seeds c.in_ok-selection.selection
+    (record {
+      read = rw (c.families-families.ensures.value, files) at c.in_ok-lists.ensures;
+      seeded = rw (c.families-families.ensures.value, reduce) at c.in_ok-seeds.ensures;
+      selected = rw (c.families-families.ensures.value, specs, c.as_slice-3.ensures) at c.in_ok-selection.ensures;
+    }) _ (rw (c.families-families.ensures.value, c.kinematics.ensures.value, c.as_slice-4.ensures) at c.in_err-test_terms.ensures))
+
 pub returns : goal.returns
-returns c = ?
+returns c =
+    let outline = c.args.outline.now in
+    let files = c.as_slice.ensures ∙ ap (λ (o : Outline). o.select.files) c.outline.view_is in
+    let reduce = c.as_slice-reduce.ensures ∙ ap (λ (o : Outline). o.reduce) c.outline.view_is in
+    let specs = c.as_slice-2.ensures ∙ ap (λ (o : Outline). o.select.specs) c.outline.view_is in
+    integrals_found outline (map (λ text. text.items) c.args.texts.now) c.in_ok-lists.lists c.in_ok-seeds.seeds c.in_ok-selection.selection
+    (record {
+      read = rw (c.families-families.ensures.value, files) at c.in_ok-lists.ensures;
+      seeded = rw (c.families-families.ensures.value, reduce) at c.in_ok-seeds.ensures;
+      selected = rw (c.families-families.ensures.value, specs, c.as_slice-3.ensures) at c.in_ok-selection.ensures;
+    }) (rw (c.families-families.ensures.value, c.kinematics.ensures.value, c.as_slice-4.ensures) at c.in_ok-test_terms.ensures)

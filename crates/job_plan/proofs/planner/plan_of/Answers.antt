@@ -6,11 +6,14 @@ use Rattle.job_plan.proofs.planner.plan_of.Goals as goal
 
 pub invariant_of-result : goal.invariant_of-result
 invariant_of-result c =
-    let names : length c.from_vec-names.result ≡ length c.args.families.now = named_all c.args.families.now c.from_vec-names.result (c.from_vec-names.ensures ∙ c.in_ok-names_of.ensures) in
+    let names : length c.in_ok-names.names.items ≡ length c.args.families.now = named_all c.args.families.now c.in_ok-names.names.items c.in_ok-names.ensures in
     record {
       few = rw names c.requires.few;
       zeros_of_all = AllZip-long AreZerosOf c.args.families.now c.in_ok-zeros.zeros c.in_ok-zeros.ensures ∙ sym names;
       bases_of_all = c.requires.bases ∙ sym names;
       dimension_below = c.requires.dimension;
       moduli = c.requires.moduli;
+      seeds = c.requires.seeds;
+      selection = c.requires.selection;
+      ascends = c.requires.ascends;
     }
