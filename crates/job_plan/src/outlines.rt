@@ -33,7 +33,8 @@ impl Model for Outline {
 }
 
 impl Outline {
-    ghost use Rattle.std.specs.Prelude.{◌≡◌, ◌<◌, ◌≤◌, [], length, map, slice_index_or};
+    ghost use Rattle.std.specs.Prelude.{◌≡◌, ◌<◌, ◌≤◌, ◌^◌, [], length, map, slice_index_or};
+    ghost use Rattle.std.specs.Str.{IsAscii};
     ghost use Rattle.job_plan.specs.Outlines.{IsSound, has_symmetry};
     ghost use Rattle.job_plan.specs.Readings.{names_of};
 
@@ -48,7 +49,9 @@ impl Outline {
     /// The name of the list file with this number, counted from 0 in the order in which they are written.
     pub fn list_name(&self, number: u32) -> &str
         requires { number < length self.now.select.files }
-        ensures { result.now ≡ slice_index_or (map (λ file. file.name) self.now.select.files) number [] }
+        ensures name { result.now ≡ slice_index_or (map (λ file. file.name) self.now.select.files) number [] }
+        ensures ascii { IsAscii result.now }
+        ensures short { length result.now < 2 ^ 32 }
     {
         self.select.files.as_slice()[number as usize].name.as_str()
     }
@@ -64,7 +67,9 @@ impl Outline {
     /// The name of the family with this number, counted from 0 in the order in which they are written.
     pub fn family_name(&self, family: u32) -> &str
         requires { family < length self.now.families }
-        ensures { result.now ≡ slice_index_or (names_of self.now.families) family [] }
+        ensures name { result.now ≡ slice_index_or (names_of self.now.families) family [] }
+        ensures ascii { IsAscii result.now }
+        ensures short { length result.now < 2 ^ 32 }
     {
         self.families.as_slice()[family as usize].name.as_str()
     }
