@@ -6,3 +6,4 @@ pub mod KeptSources
 pub mod Plans
 pub mod Message
 pub mod TopClauses
+pub mod Laws

@@ -1,5 +1,5 @@
 -- What the call of the program promises.
-use Rattle.std.specs.Prelude.{◌≡◌, ◌≢◌, ◌⊎◌, ◌≤◌, ◌<◌, ⊤, ℕ, List, Option, None, Some, option_map, Ok, Err}
+use Rattle.std.specs.Prelude.{◌≡◌, ◌≢◌, ◌⊎◌, ◌≤◌, ◌<◌, ⊤, ℕ, List, [], Result, Option, None, Some, option_map, Ok, Err}
 use Rattle.std.specs.Int.{◌∣◌}
 use Rattle.yaml_text.specs.Lines.{Bytes}
 use Rattle.sparse_row.specs.Row.{Row}
@@ -19,7 +19,9 @@ use Rattle.job_point.specs.declared.faults.PlanError.{PlanError}
 use Rattle.kira_app.specs.declared.trees.Trees.{Trees}
 use Rattle.kira_app.specs.declared.status.Status.{Status}
 use Rattle.kira_app.specs.declared.status.Status.TheVariants as status
+use Rattle.kira_app.specs.declared.refusal.Refusal.{Refusal}
 use Rattle.kira_app.specs.Steps.{plain}
+use Rattle.kira_app.specs.Message.{message_text, IsToldOf}
 use Rattle.kira_app.specs.Told.{IfTold, SaysMissing}
 use Rattle.kira_app.specs.Words.{are_served, job_file, overrides_of}
 use Rattle.kira_app.specs.Sources.{TreesOf, OutlineOf}
@@ -128,6 +130,24 @@ HasCause a (status.Singular cause) name = IsRefusal a (status.Singular cause) na
 HasCause a (status.RulesClash multipliers residue) name = IsRefusal a (status.RulesClash multipliers residue) name
 HasCause a (status.TooMany what count) name = IsRefusal a (status.TooMany what count) name
 HasCause a status.NotYet name = IsRefusal a status.NotYet name
+
+-- how a call ends: with its text sent, or with a refusal
+abbrev pub HasEnded : Around → Result (Unit {0}) Refusal → Type 0
+HasEnded a (Ok _) = HasCause a status.Ok []
+HasEnded a (Err refusal) = (refusal.status ≢ status.Ok) × HasCause a refusal.status refusal.name
+
+-- the message of such a status names a list file or a family
+abbrev pub Names : Status → Type 0
+Names (status.Input fault) = ⊤
+Names (status.Singular cause) = ⊤
+Names s = ⊥
+
+-- The message was written, or a prefix of it where the count rose. The name in it is that of the list file or of
+-- the family at fault.
+pub record IsExplained (words : List Bytes) (held : Option Held) (s : Status) (before after : Option Stream) (faults faults_after : ℕ) : Type 0 where
+  pub name : Bytes
+  pub told : IsToldOf (message_text (job_file words) (record { status = s; name = name })) before after faults faults_after
+  pub named : Names s → IfTold held (AreRefusedAs words s name)
 
 -- the reading of some trees, or the plan of some outline, has this refusal
 abbrev pub IsSaidByContents : Status → Type 0

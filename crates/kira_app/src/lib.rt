@@ -1,19 +1,21 @@
 //! The calls that the program makes: a job from its words and files to its table.
 #![tactic(auto)]
 
-mod job_input;
 mod laws;
 mod message;
-mod request;
-mod same_trees;
+mod planning;
+mod reduction;
+mod refusal;
+mod sources;
 mod status;
-mod tadpole_files;
-mod tadpole_job;
 mod top;
+mod trees;
 mod words;
 
-pub use laws::job_is_single;
+pub use laws::jobs_agree;
 pub use message::tell;
+pub use refusal::Refusal;
+pub use sources::{Sources, sources};
 pub use status::{Status, exit_code};
 pub use top::kira_alone;
 

@@ -15,7 +15,7 @@ ghost use Rattle.kira_app.specs.Words.{are_served, job_file};
 ghost use Rattle.kira_app.specs.Plans.{PlanOf};
 ghost use Rattle.kira_app.specs.TopClauses.{IsTextOf, IsSent, IsPartlySent, HavePlan, AreRefused, IsDivisorIn, IsPrime, IsMissedIn, HasCause, HasEnded, IsExplained, IsAnsweredBy};
 
-use crate::laws::plans_agree;
+use crate::laws::jobs_agree;
 use crate::reduction::table_of;
 use crate::sources::sources;
 use crate::words::{are_served, job_file, overrides};
@@ -41,5 +41,95 @@ fn plan_of<F: Files>(alloc: Global, words: &[String], files: &mut F) -> Result<P
             sources.plan(&overrides)
         }
         Err(_) => Err(Refusal::plain(alloc, Status::OutOfMemory)),
+    }
+}
+
+// The whole of the call but for its message.
+fn ended<F: Files, O: Sink>(
+    alloc: Global,
+    words: &[String],
+    files: &mut F,
+    out: &mut O,
+) -> Result<(), Refusal>
+    ensures cause { HasEnded (record {
+      words = map string_bytes words.now;
+      held = F.held files.old;
+      faults = F.faults files.old;
+      faults_after = F.faults files.new;
+      told = O.told out.old;
+      told_after = O.told out.new;
+      out_faults = O.faults out.old;
+      out_faults_after = O.faults out.new;
+    }) result }
+    ensures missing { IfErr result (λ refusal. IsMissedIn (F.held files.old) (F.faults files.old) (F.faults files.new) refusal.status) }
+    ensures words_first { are_served (map string_bytes words.now) ≡ false → IfErr result (λ refusal. refusal.status ≡ Status.NotYet) }
+    ensures silent { IfErr result (λ refusal. refusal.status ≢ Status.WriteFault → out.new ≡ out.old) }
+    ensures same { F.held files.new ≡ F.held files.old }
+{
+    let plan = plan_of(alloc, words, files)?;
+    match table_of(alloc, &plan) {
+        Ok(bytes) => match send(&bytes, out) {
+            Ok(()) => Ok(()),
+            Err(_) => Err(Refusal::plain(alloc, Status::WriteFault)),
+        },
+        Err(status) => Err(Refusal::plain(alloc, status)),
+    }
+}
+
+/// Reduces the job that the words and the files ask for, and writes its table to `out`.
+///
+/// The first word is the name of the job file, and each further one, NAME=VALUE, overrides a value of its
+/// numeric point. The files are the job file, `config/integralfamilies.yaml`,
+/// `config/kinematics.yaml` and the list files that the job names. At `Ok` the whole text of the one reduced
+/// list of the seeded equations was written and flushed. At every other answer its message is written to
+/// `err`; nothing is written to `out` before the whole text is made.
+pub fn kira_alone<F: Files, O: Sink, E: Sink>(
+    alloc: Global,
+    words: &[String],
+    files: &mut F,
+    out: &mut O,
+    err: &mut E,
+) -> Status
+    // The table clause: the reduced list exists, and the text of every reduced list was sent.
+    ensures table { result ≡ Status.Ok → IfTold (F.held files.old) (HavePlan (map string_bytes words.now) (IsSent (O.told out.old) (O.told out.new))) }
+    ensures ok_counts { result ≡ Status.Ok → (F.faults files.new ≡ F.faults files.old) × (O.faults out.new ≡ O.faults out.old) }
+    ensures ok_err { result ≡ Status.Ok → err.new ≡ err.old }
+
+    // Each other answer comes by its cause.
+    ensures not_yet { result ≡ Status.NotYet → IfTold (F.held files.old) (AreRefused (map string_bytes words.now) Status.NotYet) }
+    ensures input { (fault : InputFault) → result ≡ Status.Input fault → IfTold (F.held files.old) (AreRefused (map string_bytes words.now) (Status.Input fault)) }
+    ensures missing { IsMissedIn (F.held files.old) (F.faults files.old) (F.faults files.new) result }
+    ensures singular { (cause : Singular) → result ≡ Status.Singular cause → IfTold (F.held files.old) (AreRefused (map string_bytes words.now) (Status.Singular cause)) }
+    ensures rules_clash { (multipliers : List ℕ) (residue : ℕ) → result ≡ Status.RulesClash multipliers residue
+        → IfTold (F.held files.old) (AreRefused (map string_bytes words.now) (Status.RulesClash multipliers residue)) }
+    ensures too_many { (what : Excess) (count : ℕ) → result ≡ Status.TooMany what count
+        → IfTold (F.held files.old) (AreRefused (map string_bytes words.now) (Status.TooMany what count)) }
+    ensures composite { (fault : CompositeValue) → result ≡ Status.Composite fault → IfTold (F.held files.old) (IsDivisorIn (map string_bytes words.now) fault.divisor) }
+    ensures read_fault { result ≡ Status.ReadFault → Rose (F.faults files.old) (F.faults files.new) }
+    ensures write_fault { result ≡ Status.WriteFault → IfTold (F.held files.old) (HavePlan (map string_bytes words.now) (IsPartlySent (O.told out.old) (O.told out.new)))
+        × Rose (O.faults out.old) (O.faults out.new) }
+
+    // And where the cause is there, the answer comes.
+    ensures words_first { are_served (map string_bytes words.now) ≡ false → result ≡ Status.NotYet }
+    ensures first_refusal { (held : Held) (refusal : StatusValue) → F.held files.old ≡ Some held → AreRefused (map string_bytes words.now) refusal held
+        → ¬ (Rose (F.faults files.old) (F.faults files.new)) → IsAnsweredBy refusal result }
+
+    // Nothing is written before the whole text is made.
+    ensures silent { result ≢ Status.Ok → result ≢ Status.WriteFault → out.new ≡ out.old }
+    ensures message { result ≢ Status.Ok → IsExplained (map string_bytes words.now) (F.held files.old) result (E.told err.old) (E.told err.new) (E.faults err.old) (E.faults err.new) }
+    ensures same_files { F.held files.new ≡ F.held files.old }
+
+    // Where the job has a plan, the modulus is prime and nothing outside fails, there is a table.
+    ensures complete { (held : Held) → F.held files.old ≡ Some held → HavePlan (map string_bytes words.now) (λ plan. IsPrime plan.modulus) held
+        → ¬ (Rose (F.faults files.old) (F.faults files.new)) → ¬ (Rose (O.faults out.old) (O.faults out.new))
+        → (result ≡ Status.Ok) ⊎ (result ≡ Status.OutOfMemory) }
+{
+    jobs_agree();
+    match ended(alloc, words, files, out) {
+        Ok(()) => Status::Ok,
+        Err(refusal) => {
+            tell(&refusal, job_file(words), err);
+            refusal.status
+        }
     }
 }
