@@ -5,5 +5,5 @@ pub read_job-requires-clause-families_sound : goal.read_job-requires-clause-fami
 read_job-requires-clause-families_sound c = record {
   few = c.in_ok-families.ensures.few;
   sound = c.in_ok-families.ensures.sound;
-  few_symmetries = few_symmetries _ _ _ c.in_ok-families.ensures.reading;
+  few_symmetries = few_symmetries c.in_ok-kinematics.kinematics c.args.families.now c.in_ok-families.families c.in_ok-families.ensures.reading;
 }
