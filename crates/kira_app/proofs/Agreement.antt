@@ -1,10 +1,14 @@
 -- The words and the files have one plan or one refusal, but for a divisor of the modulus.
-use Rattle.std.proofs.Common.{◌≡◌, ◌⊎◌, ◌<◌, inl, inr, ℕ, List, [], ◌∷◌, ◌++◌, length, Ok, Err, refl, sym, ap, ◌∙◌, subst, arith}
+use Rattle.std.proofs.Common.{◌≡◌, ◌⊎◌, ◌<◌, ◌^◌, inl, inr, ℕ, Bool, true, false, cond, nat_lt, Option, None, Some, List, [], ◌∷◌, ◌++◌, length, Ok, Err, refl, sym, ap, ◌∙◌, subst, arith}
+use Rattle.std.specs.Prelude.{⊤}
 use Rattle.std.specs.Result.{is_ok}
+use Rattle.std.specs.FinMap as map
 use Rattle.std.proofs.lemmas.Bool.{true≢false}
 use Rattle.yaml_text.specs.Lines.{Bytes}
 use Rattle.matrix_elimination.specs.Fault.{IsProperDivisor}
 use Rattle.field_word.specs.declared.Composite.{Composite as FieldComposite}
+use Rattle.input_schema.specs.declared.faults.File.{File}
+use Rattle.input_schema.specs.declared.faults.InputKind.TheVariants.{TooLong}
 use Rattle.input_schema.specs.Readings as input
 use Rattle.input_schema.proofs.Steps as input_steps
 use Rattle.kira_outside.specs.Held.{Held}
@@ -16,15 +20,16 @@ use Rattle.job_point.specs.declared.faults.Singular.TheVariants as singular
 use Rattle.job_point.specs.Steps as point
 use Rattle.job_point.specs.Agreement.{IsSameFault, IsSameAnswer, NamesDivisor}
 use Rattle.job_plan.specs.Laws.{OutlineIsSingle, OutlinesHaveAModulus, PlansAgree, PlansNameDivisors}
-use Rattle.job_plan.specs.Outlines.{Outline}
+use Rattle.job_plan.specs.Outlines.{Outline, has_symmetry}
+use Rattle.job_plan.specs.Readings.{ReadsOutline}
 use Rattle.job_plan.specs.Plans.{Plan, IsPlan}
-use Rattle.kira_app.specs.declared.trees.Trees.{Trees}
+use Rattle.kira_app.specs.declared.job_files.Trees.{Trees}
 use Rattle.kira_app.specs.declared.status.Status.{Status}
 use Rattle.kira_app.specs.declared.status.Status.TheVariants as status
 use Rattle.kira_app.specs.declared.refusal.Refusal.{Refusal}
 use Rattle.kira_app.specs.Steps.{Answer, Step, Is, After, Then, Each, plain, OfReading, OfPlan}
-use Rattle.kira_app.specs.Words.{job_file, overrides_of}
-use Rattle.kira_app.specs.Sources.{Sources, TreeOf, KinematicsOf, FamiliesOf, TreesOf, ListsOf, OutlineOf, Outlines, SourcesWith, ReadsSources}
+use Rattle.kira_app.specs.Words.{are_served, job_file, overrides_of}
+use Rattle.kira_app.specs.Sources.{Sources, TreeOf, KinematicsOf, FamiliesOf, TreesOf, ListsOf, OutlineOf, Outlines, SourcesWith, ReadsSources, list_of_entry, no_list, tree_of}
 use Rattle.kira_app.specs.Plans.{status_of, refusal_of, PlanOfSources, PlanOf}
 use Rattle.kira_app.specs.TopClauses.{IsAlike, IsDivisorIn}
 use Rattle.kira_app.specs.Laws.{AreAlike, NamesDivisorIn, JobsAgree, JobsNameDivisors}
@@ -206,3 +211,110 @@ module _ (single : OutlineIsSingle) (moduli : OutlinesHaveAModulus) (law : Plans
 
 pub jobs_agree : OutlineIsSingle → OutlinesHaveAModulus → PlansAgree → JobsAgree
 jobs_agree single moduli law words held = job_agrees single moduli law words held
+
+-- ---- divisors
+
+abbrev refusal_or : {A : Type 0} → Refusal → Answer A → Refusal
+refusal_or d (Ok a) = d
+refusal_or d (Err e) = e
+
+abbrev is_composite : Status → Bool
+is_composite (status.Composite f) = true
+is_composite _ = false
+
+abbrev divisor_or : Status → ℕ
+divisor_or (status.Composite f) = f.divisor
+divisor_or _ = 0
+
+-- no refusal of the step names a divisor
+abbrev NoDivisor : {A : Type 0} → Step A → Type 0
+NoDivisor step = (refusal : Refusal) → step (Err refusal) → is_composite refusal.status ≡ false
+
+abbrev IsFree : {A : Type 0} → Answer A → Type 0
+IsFree (Ok a) = ⊤
+IsFree (Err e) = is_composite e.status ≡ false
+
+free_at : {A : Type 0} (answer r : Answer A) → answer ≡ r → IsFree answer → IsFree r
+free_at {A} answer r e h = subst (λ (x : Answer A). IsFree x) e h
+
+none_is : {A : Type 0} (answer : Answer A) → IsFree answer → NoDivisor (Is answer)
+none_is answer free refusal h = free_at answer (Err refusal) h free
+
+none_reading : {A : Type 0} (reading : input.Reading A) → NoDivisor (OfReading reading)
+none_reading reading refusal h = ap (λ (x : Refusal). is_composite x.status) h.2
+
+abbrev names_one : {A : Type 0} → Answer A → Bool
+names_one (Ok a) = false
+names_one (Err e) = is_composite e.status
+
+none_after : {A B : Type 0} (first : Step A) (next : A → Step B) → NoDivisor first → ((a : A) → NoDivisor (next a)) → (o : Answer A) → first o → NoDivisor (After o next)
+none_after first next one more (Ok a) is refusal h = more a refusal h
+none_after {A} {B} first next one more (Err e) is refusal h = ap names_one h ∙ one e is
+
+none_then : {A B : Type 0} (first : Step A) (next : A → Step B) → NoDivisor first → ((a : A) → NoDivisor (next a)) → NoDivisor (Then first next)
+none_then first next one more refusal h = none_after first next one more h.answer h.is refusal h.after
+
+none_each : {N A : Type 0} (step : List A → N → Step A) → ((found : List A) (item : N) → NoDivisor (step found item)) → (found : List A) (items : List N) → NoDivisor (Each step found items)
+none_each step one found [] refusal h = absurd (true≢false (sym (ap is_ok h)))
+none_each step one found (item ∷ items) refusal h = none_then (step found item) (λ a. Each step (found ++ a ∷ []) items) (one found item) (λ a. none_each step one (found ++ a ∷ []) items) refusal h
+
+free_if : {A : Type 0} (b : Bool) (x y : Answer A) → IsFree x → IsFree y → IsFree (cond b x y)
+free_if true x y h k = h
+free_if false x y h k = k
+
+free_entry : (number : ℕ) (name : Bytes) (entry : Option Bytes) → IsFree (list_of_entry number name entry)
+free_entry number name None = refl
+free_entry number name (Some bytes) = free_if (nat_lt (2 ^ 24) (length bytes)) (Err (no_list number name TooLong)) (Ok bytes) refl tt
+
+none_tree : (file : File) (name : Bytes) (held : Held) → NoDivisor (TreeOf file name held)
+none_tree file name held = none_reading (input.Is (tree_of file name held))
+
+none_outline : (overrides : List Override) (trees : Trees) → NoDivisor (OutlineOf overrides trees)
+none_outline overrides trees = none_reading (ReadsOutline trees.families trees.kinematics trees.jobs overrides)
+
+none_trees : (name : Bytes) (held : Held) → NoDivisor (TreesOf name held)
+none_trees name held =
+    none_then _ _ (none_tree _ name held) (λ jobs. none_then _ _ (none_tree _ _ held) (λ families. none_then _ _ (none_tree _ _ held) (λ kinematics. none_is _ tt)))
+
+none_sources : (overrides : List Override) (name : Bytes) (held : Held) → NoDivisor (ReadsSources overrides name held)
+none_sources overrides name held =
+    none_then _ _
+    (none_then _ _ (none_trees name held) (λ trees. none_then _ _ (none_outline overrides trees) (λ outline. none_then _ _ (none_is _ (free_if (has_symmetry outline) _ _ refl tt)) (λ _. none_is _ tt))))
+    (λ both. none_then _ _ (none_each _ (λ found list. none_is _ (free_entry (length found) list.name (map.get held list.name))) [] both.1.select.files) (λ lists. none_is _ tt))
+
+module _ (moduli : OutlinesHaveAModulus) (law : PlansNameDivisors) (words : List Bytes) (held : Held) (fault : FieldComposite) where
+  abbrev Naming : {A : Type 0} → Step A → Type 0
+  Naming step = (refusal : Refusal) → step (Err refusal) → refusal.status ≡ status.Composite fault → IsDivisorIn words fault.divisor held
+
+  names_none : {A : Type 0} (step : Step A) → NoDivisor step → Naming step
+  names_none step none refusal h e = absurd (true≢false (sym (ap is_composite e) ∙ none refusal h))
+
+  names_after : {A B : Type 0} (first : Step A) (next : A → Step B) → Naming first → ((a : A) → first (Ok a) → Naming (next a)) → (o : Answer A) → first o → Naming (After o next)
+  names_after first next one more (Ok a) is refusal h e = more a is refusal h e
+  names_after {A} {B} first next one more (Err x) is refusal h e = one x is (sym (ap (λ (y : Refusal). y.status) (ap (refusal_or refusal) h)) ∙ e)
+
+  names_then : {A B : Type 0} (first : Step A) (next : A → Step B) → Naming first → ((a : A) → first (Ok a) → Naming (next a)) → Naming (Then first next)
+  names_then first next one more refusal h e = names_after first next one more h.answer h.is refusal h.after e
+
+  outline_names : (trees : Trees) → TreesOf (job_file words) held (Ok trees) → (outline : Outline) → OutlineOf (overrides_of words) trees (Ok outline) → (lists : List Bytes) → Naming (OfPlan (refusal_of outline) (IsPlan outline lists))
+  outline_names trees read outline outlined lists refusal h e = by h.0 h.1 (sym (ap (λ (x : Refusal). x.status) h.2) ∙ e)
+    where
+      by : (x : PlanError) → IsPlan outline lists (Err x) → status_of x ≡ status.Composite fault → IsDivisorIn words fault.divisor held
+      by (plan_error.Composite f) is same =
+          let least = (moduli trees.families trees.kinematics trees.jobs (overrides_of words) outline outlined).from_3 in
+          subst (λ d. IsDivisorIn words d held) (ap divisor_or same) (named words held trees read outline outlined f.divisor (law outline lists (omega (arith, least)) f is))
+      by (plan_error.Singular cause) is same = absurd (true≢false (sym (ap is_composite same)))
+      by (plan_error.RulesClash m r) is same = absurd (true≢false (sym (ap is_composite same)))
+      by (plan_error.Input f) is same = absurd (true≢false (sym (ap is_composite same)))
+      by (plan_error.TooMany what count) is same = absurd (true≢false (sym (ap is_composite same)))
+      by plan_error.OutOfMemory is same = absurd (true≢false (sym (ap is_composite same)))
+
+  job_names : Naming (PlanOf words held)
+  job_names =
+      names_then _ _ (names_none _ (none_is _ (free_if (are_served words) _ _ tt refl))) (λ _ served.
+      names_then _ _ (names_none _ (none_sources (overrides_of words) (job_file words) held)) (λ sources read.
+      names_then _ _ (names_none _ (none_outline (overrides_of words) sources.trees)) (λ outline outlined.
+      outline_names sources.trees (trees_read (overrides_of words) (job_file words) held sources read) outline outlined sources.lists)))
+
+pub jobs_name_divisors : OutlinesHaveAModulus → PlansNameDivisors → JobsNameDivisors
+jobs_name_divisors moduli law words held refusal fault h e = job_names moduli law words held fault refusal h e

@@ -1,6 +1,6 @@
 -- How the sources of a job are kept: as they are seen, with a text for each list file.
 use Rattle.std.specs.Prelude.{map}
-use Rattle.kira_app.specs.declared.sources.Sources.TheInside.{Inside}
+use Rattle.kira_app.specs.declared.job_files.Sources.TheInside.{Inside}
 use Rattle.kira_app.specs.Sources.{Sources, AreWhole}
 
 abbrev pub shown : Inside → Sources

@@ -19,8 +19,8 @@ use Rattle.job_schema.specs.Overridden.{Override}
 use Rattle.job_plan.specs.Outlines.{Outline}
 use Rattle.job_plan.specs.Readings.{ReadsOutline}
 use Rattle.job_plan.specs.Outlines.{has_symmetry}
-use Rattle.kira_app.specs.declared.trees.Trees.{Trees}
-use Rattle.kira_app.specs.contracts.trees.Trees as trees_contracts
+use Rattle.kira_app.specs.declared.job_files.Trees.{Trees}
+use Rattle.kira_app.specs.contracts.job_files.Trees as trees_contracts
 use Rattle.kira_app.specs.declared.refusal.Refusal.{Refusal}
 use Rattle.kira_app.specs.declared.status.Status.TheVariants as status
 use Rattle.kira_app.specs.Steps.{Answer, Step, Is, Then, Each, plain, OfReading}

@@ -59,10 +59,10 @@ plainly (Ok a) = Ok a
 plainly (Err s) = Err (plain s)
 
 -- the bytes of an answer that has them in a vector, or in several
-abbrev pub texts_of : Result (Vec (Vec ℕ)) Refusal → Answer (List (List ℕ))
+abbrev pub texts_of : {Y Z : Type 0} → Result (Vec (Vec ℕ Y) Z) Refusal → Answer (List (List ℕ))
 texts_of (Ok texts) = Ok (map (λ text. text.items) texts.items)
 texts_of (Err refusal) = Err refusal
 
-abbrev pub bytes_of : Result (Vec ℕ) Refusal → Answer (List ℕ)
+abbrev pub bytes_of : {Z : Type 0} → Result (Vec ℕ Z) Refusal → Answer (List ℕ)
 bytes_of (Ok bytes) = Ok bytes.items
 bytes_of (Err refusal) = Err refusal

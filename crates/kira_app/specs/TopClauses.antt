@@ -16,7 +16,7 @@ use Rattle.job_plan.specs.Outlines.{Outline}
 use Rattle.job_plan.specs.Plans.{Plan, IsPlan}
 use Rattle.job_schema.specs.Overridden.{Override}
 use Rattle.job_point.specs.declared.faults.PlanError.{PlanError}
-use Rattle.kira_app.specs.declared.trees.Trees.{Trees}
+use Rattle.kira_app.specs.declared.job_files.Trees.{Trees}
 use Rattle.kira_app.specs.declared.status.Status.{Status}
 use Rattle.kira_app.specs.declared.status.Status.TheVariants as status
 use Rattle.kira_app.specs.declared.refusal.Refusal.{Refusal}

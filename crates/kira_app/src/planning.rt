@@ -7,7 +7,8 @@ ghost use Rattle.kira_app.specs.Steps.{OfPlan};
 ghost use Rattle.kira_app.specs.Told.{Answers};
 ghost use Rattle.kira_app.specs.Plans.{name_of_file, family_name, refusal_of};
 
-use crate::sources::{Sources, named, outline};
+use crate::job_files::Sources;
+use crate::loading::{named, outline};
 use crate::{Refusal, Status};
 use job_plan::{File, Outline, Override, Plan, PlanError, Singular};
 use std::alloc::Global;

@@ -4,7 +4,7 @@ ghost use Rattle.std.specs.Prelude.{◌≡◌, IfOk, IfErr};
 ghost use Rattle.kira_app.specs.TopClauses.{IsTextOf, IsReductionFault};
 
 use crate::Status;
-use job_equations::equations_are_unique;
+use job_equations::laws::equations_are_unique;
 use job_plan::Plan;
 use out_of_memory::OutOfMemory;
 use reduction_core::reduce_plain;

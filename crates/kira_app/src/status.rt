@@ -6,6 +6,8 @@ ghost use Rattle.kira_app.specs.Message.{exit_code_of};
 use field_word::Composite;
 use job_plan::{Excess, InputFault, Singular};
 use matrix_elimination::Vector;
+use out_of_memory::OutOfMemory;
+use reduction_core::ForwardFault;
 
 /// How a call of the program ends.
 #[derive(Debug, Drop)]
@@ -59,5 +61,28 @@ pub fn exit_code(status: &Status) -> u8
         Status::WriteFault => 9,
         Status::OutOfMemory => 14,
         Status::NotYet => 21,
+    }
+}
+
+impl From<OutOfMemory> for Status {
+    ghost use Rattle.kira_app.specs.declared.status.Status.TheVariants.{OutOfMemory};
+
+    ghost from_gives = { λ _ status. status ≡ OutOfMemory };
+
+    fn from(_refused: OutOfMemory) -> Status {
+        Status::OutOfMemory
+    }
+}
+
+impl From<ForwardFault> for Status {
+    ghost use Rattle.kira_app.specs.Message.{status_of_fault};
+
+    ghost from_gives = { λ fault status. status ≡ status_of_fault fault };
+
+    fn from(fault: ForwardFault) -> Status {
+        match fault {
+            ForwardFault::Composite(composite) => Status::Composite(composite),
+            ForwardFault::OutOfMemory => Status::OutOfMemory,
+        }
     }
 }

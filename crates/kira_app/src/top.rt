@@ -17,7 +17,7 @@ ghost use Rattle.kira_app.specs.TopClauses.{IsTextOf, IsSent, IsPartlySent, Have
 
 use crate::laws::jobs_agree;
 use crate::reduction::table_of;
-use crate::sources::sources;
+use crate::loading::sources;
 use crate::words::{are_served, job_file, overrides};
 use crate::{Refusal, Status, tell};
 use job_plan::Plan;

@@ -8,37 +8,15 @@ ghost use Rattle.kira_app.specs.Sources.{tree_in, list_of, TreeOf, KinematicsOf,
 ghost use Rattle.kira_app.specs.TopClauses.{IsMissedIn};
 ghost use Rattle.kira_app.specs.Told.{Tells, Answers, IsMissed, IsPresent};
 
-use crate::trees::Trees;
+use crate::job_files::{Sources, Trees};
 use crate::{Refusal, Status};
-use job_plan::{File, InputFault, InputKind, Outline, Override, PlanError, one_selection};
+use job_plan::{File, InputFault, InputKind, Outline, Override, PlanError, outlines_have_a_modulus};
 use kira_outside::{Files, LoadFault};
 use std::alloc::Global;
-use std::marker::Model;
 use yaml_text::{Text, Tree, YamlError};
 
 /// The most bytes that a file may have.
 const MOST_BYTES: usize = 1 << 24;
-
-/// What the files of a job hold: the trees of its three files, and the texts of its list files.
-#[derive(Drop)]
-pub struct Sources {
-    pub(crate) trees: Trees,
-    pub(crate) lists: Vec<Vec<u8>>,
-}
-
-impl Model for Sources {
-    ghost use Rattle.kira_app.specs.Sources.{Sources as SourcesValue, sources_code};
-
-    ghost Value = { SourcesValue };
-
-    ghost coded = { sources_code };
-
-    ghost use Rattle.kira_app.specs.KeptSources.{shown, IsKept};
-
-    ghost view = { shown };
-
-    ghost invariant = { IsKept };
-}
 
 // The status of a fault of an input.
 fn input_fault(file: File, line: u32, kind: InputKind) -> Status
@@ -203,7 +181,9 @@ fn load_lists<F: Files>(
     let mut lists = Vec::new(alloc);
     for number in 0..outline.list_count() {
         let text = load_list(alloc, files, number, outline.list_name(number))?;
-        lists.push(text)?;
+        if lists.push(text).is_err() {
+            return Err(Refusal::plain(alloc, Status::OutOfMemory));
+        }
     }
     Ok(lists)
 }
@@ -239,7 +219,7 @@ fn with_lists<F: Files>(
     ensures missing { IfErr result (λ refusal. IsMissed (F.held files.old) (F.faults files.old) (F.faults files.new) refusal.status) }
     ensures same { F.held files.new ≡ F.held files.old }
 {
-    one_selection();
+    outlines_have_a_modulus();
     let lists = load_lists(alloc, files, outline)?;
     Ok(Sources { trees, lists })
 }

@@ -1,7 +1,0 @@
--- Messages in pieces.
-use Rattle.std.proofs.Common.{Result, Ok, Err, OnErr}
-
--- what holds anyway holds of an error
-pub on_err : {A E : Type 0} (r : Result A E) (P : Type 0) → P → OnErr r P
-on_err (Ok a) P h = tt
-on_err (Err e) P h = h
