@@ -73,8 +73,8 @@ zeros_same (family ∷ families) [] others h k = absurd h
 zeros_same (family ∷ families) (s ∷ some) [] h k = absurd k
 zeros_same (family ∷ families) (s ∷ some) (o ∷ others) h k =
     let first : s ≡ o =
-        one_rising s o (AllPairs-from_increasing s h.0.ascending) (AllPairs-from_increasing o k.0.ascending)
-        (λ n m. (k.0.same n).1 ((h.0.same n).0 m)) (λ n m. (h.0.same n).1 ((k.0.same n).0 m)) in
+    one_rising s o (AllPairs-from_increasing s h.0.ascending) (AllPairs-from_increasing o k.0.ascending)
+    (λ n m. (k.0.same n).1 ((h.0.same n).0 m)) (λ n m. (h.0.same n).1 ((k.0.same n).0 m)) in
     λ i. first i ∷ zeros_same families some others h.1 k.1 i
 
 -- ---- steps

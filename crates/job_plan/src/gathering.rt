@@ -122,10 +122,7 @@ fn selection_of(
 {
     let seeds = seeds_of(alloc, Excess::Selected, specs, families, shapes)?;
     let found = joined(alloc, seeds.as_slice(), lists)?;
-    told(
-        Excess::Selected,
-        ascending(found, Order::Standard, MOST),
-    )
+    told(Excess::Selected, ascending(found, Order::Standard, MOST))
 }
 
 /// The integrals of a job whose list files have these texts: the files are read, the seeds and the selection
@@ -145,13 +142,7 @@ pub fn integrals_of(
     let shapes = shapes_of(alloc, families)?;
     let reduce = outline.reduce.as_slice();
     let seeds = seeds_of(alloc, Excess::Seeds, reduce, families, &shapes)?;
-    let selection = selection_of(
-        alloc,
-        specs.as_slice(),
-        families,
-        &shapes,
-        lists.as_slice(),
-    )?;
+    let selection = selection_of(alloc, specs.as_slice(), families, &shapes, lists.as_slice())?;
     test_terms(alloc, outline.kinematics(), families, seeds.as_slice())?;
     Ok(Integrals { seeds, selection })
 }

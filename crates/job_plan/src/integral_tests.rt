@@ -50,13 +50,13 @@ const FIVE_LOOPS: &'static str =
 const MANY_TERMS: &'static str =
     "jobs:\n  - reduce_sectors:\n      reduce: [{topologies: [vac], sectors: [1], r: 24, s: 2}]\n      select_integrals: {}\n      numeric_point: {prime: 101, d: 1/0}\n";
 
-/// And 100 * 3060 = 306000 for r 100 and s 4.
+/// And 43 * 3060 = 131580 for r 43 and s 4.
 const MANY_SELECTED: &'static str =
-    "jobs:\n  - reduce_sectors:\n      reduce: [{topologies: [vac], sectors: [1], r: 24, s: 2}]\n      select_integrals: {select_mandatory_recursively: [{topologies: [vac], sectors: [1], r: 100, s: 4}]}\n      numeric_point: {prime: 101, d: 1/0}\n";
+    "jobs:\n  - reduce_sectors:\n      reduce: [{topologies: [vac], sectors: [1], r: 24, s: 2}]\n      select_integrals: {select_mandatory_recursively: [{topologies: [vac], sectors: [1], r: 43, s: 4}]}\n      numeric_point: {prime: 101, d: 1/0}\n";
 
 /// Both too many seeds and too many selected integrals.
 const MANY_OF_BOTH: &'static str =
-    "jobs:\n  - reduce_sectors:\n      reduce: [{topologies: [vac], sectors: [1], r: 100, s: 4}]\n      select_integrals: {select_mandatory_recursively: [{topologies: [vac], sectors: [1], r: 100, s: 4}]}\n      numeric_point: {prime: 101, d: 1/0}\n";
+    "jobs:\n  - reduce_sectors:\n      reduce: [{topologies: [vac], sectors: [1], r: 43, s: 4}]\n      select_integrals: {select_mandatory_recursively: [{topologies: [vac], sectors: [1], r: 43, s: 4}]}\n      numeric_point: {prime: 101, d: 1/0}\n";
 
 // How many seeds, selected integrals and equations a plan has.
 fn sizes_of(plan: &Plan) -> Result<(u64, usize, usize), Fail> {
@@ -83,7 +83,13 @@ fn plans_the_bubble(rt: HostRuntime) -> Result<(), Fail> {
 fn knows_symmetries(rt: HostRuntime) -> Result<(), Fail> {
     let alloc = rt.alloc();
     let bubble = outline_of(alloc, BUBBLE_KINEMATICS, BUBBLE_FAMILY, BUBBLE_JOB, &[])??;
-    let triangle = outline_of(alloc, TRIANGLE_KINEMATICS, TRIANGLE_FAMILY, TRIANGLE_JOB, &[])??;
+    let triangle = outline_of(
+        alloc,
+        TRIANGLE_KINEMATICS,
+        TRIANGLE_FAMILY,
+        TRIANGLE_JOB,
+        &[],
+    )??;
     assert!(rt; bubble.has_symmetry() && !triangle.has_symmetry());
     Ok(())
 }
@@ -118,7 +124,14 @@ fn plans_the_triangle(rt: HostRuntime) -> Result<(), Fail> {
 // A script enumerated 69 seeds, each with four momenta.
 #[test]
 fn plans_the_box(rt: HostRuntime) -> Result<(), Fail> {
-    let plan = plan_of(rt.alloc(), BOX_KINEMATICS, BOX_FAMILY, BOX_JOB, &[], &[BOX_LIST])??;
+    let plan = plan_of(
+        rt.alloc(),
+        BOX_KINEMATICS,
+        BOX_FAMILY,
+        BOX_JOB,
+        &[],
+        &[BOX_LIST],
+    )??;
     assert_eq!(rt; sizes_of(&plan)?, (69, 5, 276));
     assert!(rt; plan.family_count() == 1 && plan.width(0) == 4);
     Ok(())
@@ -167,9 +180,26 @@ fn names_the_first_fault_of_lists(rt: HostRuntime) -> Result<(), Fail> {
 #[test]
 fn refuses_many_seeds(rt: HostRuntime) -> Result<(), Fail> {
     let alloc = rt.alloc();
-    let outcome = plan_of(alloc, BOX_KINEMATICS, BOX_FAMILY, MANY_SEEDS, &[], &["bix[1,1,1,1]"])?;
-    assert_eq!(rt; cause_of(&outcome), list_fault(0, 1, InputKind::UnknownName));
-    let outcome = plan_of(alloc, BOX_KINEMATICS, BOX_FAMILY, MANY_SEEDS, &[], &[BOX_LIST])?;
+    let outcome = plan_of(
+        alloc,
+        BOX_KINEMATICS,
+        BOX_FAMILY,
+        MANY_SEEDS,
+        &[],
+        &["bix[1,1,1,1]"],
+    )?;
+    assert_eq!(rt;
+        cause_of(&outcome),
+        list_fault(0, 1, InputKind::UnknownName)
+    );
+    let outcome = plan_of(
+        alloc,
+        BOX_KINEMATICS,
+        BOX_FAMILY,
+        MANY_SEEDS,
+        &[],
+        &[BOX_LIST],
+    )?;
     assert_eq!(rt; cause_of(&outcome), Cause::TooMany(Excess::Seeds, 131073));
     Ok(())
 }
@@ -179,16 +209,25 @@ fn five_loops_cause(alloc: Global, job: &str) -> Result<Cause, Fail> {
     Ok(cause_of(&outcome))
 }
 
-// A seed has 5 * 5 equations of 15 * 15 + 15 + 1 terms: 2880 * 25 * 241 = 17352000. The dimension, which
-// divides by zero, comes last.
+// The dimension, which divides by zero, comes last in each of these.
 #[test]
-fn refuses_many_in_order(rt: HostRuntime) -> Result<(), Fail> {
-    let alloc = rt.alloc();
-    let seeds = five_loops_cause(alloc, MANY_OF_BOTH)?;
-    assert_eq!(rt; seeds, Cause::TooMany(Excess::Seeds, 131073));
-    let selected = five_loops_cause(alloc, MANY_SELECTED)?;
-    assert_eq!(rt; selected, Cause::TooMany(Excess::Selected, 131073));
-    let terms = five_loops_cause(alloc, MANY_TERMS)?;
-    assert_eq!(rt; terms, Cause::TooMany(Excess::Terms, 17352000));
+fn tests_seeds_before_the_selection(rt: HostRuntime) -> Result<(), Fail> {
+    let cause = five_loops_cause(rt.alloc(), MANY_OF_BOTH)?;
+    assert_eq!(rt; cause, Cause::TooMany(Excess::Seeds, 131073));
+    Ok(())
+}
+
+#[test]
+fn tests_the_selection_before_terms(rt: HostRuntime) -> Result<(), Fail> {
+    let cause = five_loops_cause(rt.alloc(), MANY_SELECTED)?;
+    assert_eq!(rt; cause, Cause::TooMany(Excess::Selected, 131073));
+    Ok(())
+}
+
+// A seed has 5 * 5 equations of 15 * 15 + 15 + 1 terms: 2880 * 25 * 241 = 17352000.
+#[test]
+fn refuses_many_terms(rt: HostRuntime) -> Result<(), Fail> {
+    let cause = five_loops_cause(rt.alloc(), MANY_TERMS)?;
+    assert_eq!(rt; cause, Cause::TooMany(Excess::Terms, 17352000));
     Ok(())
 }

@@ -113,7 +113,14 @@ fn plans_the_tadpole(rt: HostRuntime) -> Result<(), Fail> {
 }
 
 fn two_families(alloc: Global) -> Result<Plan, Fail> {
-    Ok(plan_of(alloc, ONE_MOMENTUM, TWO_FAMILIES, TWO_LISTS, &["d=-3"], &["", ""])??)
+    Ok(plan_of(
+        alloc,
+        ONE_MOMENTUM,
+        TWO_FAMILIES,
+        TWO_LISTS,
+        &["d=-3"],
+        &["", ""],
+    )??)
 }
 
 // The dimension is -3.

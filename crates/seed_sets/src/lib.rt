@@ -77,11 +77,7 @@ pub fn list(
 
 /// These integrals, ascending in the order, each once. Where there are more than `most` different ones the
 /// answer is `TooMany`, as `list` says it. It takes no memory.
-pub fn ascending(
-    found: Vec<Integral>,
-    order: Order,
-    most: u64,
-) -> Result<Vec<Integral>, SeedFault>
+pub fn ascending(found: Vec<Integral>, order: Order, most: u64) -> Result<Vec<Integral>, SeedFault>
     requires { most ≤ 2 ^ 17 }
     ensures ascends { IfOk result (λ kept. Ascends order kept.items) }
     ensures members { IfOk result (λ kept. (x : IntegralValue) → Contains kept.items x ↔ Contains found.items x) }

@@ -20,8 +20,8 @@ returns c =
     let shapes = shapes_of c.args.families.now in
     let found = c.in_ok-found.found.items in
     let same : (x : Integral) → Contains found x ↔ IsSelected c.args.specs.now shapes c.args.lists.now x =
-        subst (λ (xs : List Integral). (x : Integral) → Contains xs x ↔ IsSelected c.args.specs.now shapes c.args.lists.now x) (sym c.in_ok-found.ensures)
-        (selected_same c.args.specs.now shapes c.args.lists.now _ (rw c.as_slice.ensures c.in_ok-seeds.ensures.members)) in
+    subst (λ (xs : List Integral). (x : Integral) → Contains xs x ↔ IsSelected c.args.specs.now shapes c.args.lists.now x) (sym c.in_ok-found.ensures)
+    (selected_same c.args.specs.now shapes c.args.lists.now _ (rw c.as_slice.ensures c.in_ok-seeds.ensures.members)) in
     rw c.told.ensures
     (meets_same Selected (Contains found) (IsSelected c.args.specs.now shapes c.args.lists.now) same _
     (meets_list Selected c.ascending.result (Contains found) c.ascending.ensures.ascends c.ascending.ensures.members c.ascending.ensures.few c.ascending.ensures.many))

@@ -13,7 +13,7 @@ returns-in_err-found c =
     let lists = c.loop-listed.lists in
     let number = c.len-number.ensures in
     let text : slice_index_or texts (length lists) [] ≡ c.deref.result.now =
-        (rw number at (text_at c.args.texts.now c.len-number.result c.index-texts-number.result (omega arith) c.index-texts-number.is)) ∙ sym c.deref.ensures.value in
+    (rw number at (text_at c.args.texts.now c.len-number.result c.index-texts-number.result (omega arith) c.index-texts-number.is)) ∙ sym c.deref.ensures.value in
     refused (AreListsRead families c.args.files.now texts) _ _ c.from_residual.ensures.1
     (spoilt (λ found listed. IsListRead families (length found) listed (slice_index_or texts (length found) [])) [] c.args.files.now lists c.loop-listed.listed-index c.listed-item.result c.in_err-found.field-0.0 c.loop-listed.invariant.step (omega arith) c.listed-item.is
     (subst (λ (t : List ℕ). Refuses (IsListRead families (length lists) c.listed-item.result t) c.in_err-found.field-0.0) (sym text) (rw number at c.in_err-found.ensures)))
