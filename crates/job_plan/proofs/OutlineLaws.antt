@@ -194,8 +194,8 @@ one_selection single_kinematics single_families families kinematics tree words o
     let q = parts_of families kinematics tree others other k in
     let same_k : p.k ≡ q.k = ap (kinematics_or p.k) (single_kinematics kinematics (Ok p.k) (Ok q.k) p.is_k q.is_k) in
     let same_f : p.f ≡ q.f =
-        ap (families_or p.f) (single_families p.k families (Ok p.f) (Ok q.f) p.is_f (subst (λ (x : Kinematics). ReadsFamilies x families (Ok q.f)) (sym same_k) q.is_f)) in
+    ap (families_or p.f) (single_families p.k families (Ok p.f) (Ok q.f) p.is_f (subst (λ (x : Kinematics). ReadsFamilies x families (Ok q.f)) (sym same_k) q.is_f)) in
     let again : jobs (names_of p.f) (map frame_of p.f) (parameters p.k) tree ≡ Ok q.found =
-        (λ i. jobs (names_of (same_f i)) (map frame_of (same_f i)) (parameters (same_k i)) tree) ∙ q.is_job in
+    (λ i. jobs (names_of (same_f i)) (map frame_of (same_f i)) (parameters (same_k i)) tree) ∙ q.is_job in
     let same_job : p.found ≡ q.found = ap (job_or p.found) (sym p.is_job ∙ again) in
     ap (λ (o : Outline). o.select) p.same ∙ ap (λ (job : Job). job.select) same_job ∙ sym (ap (λ (o : Outline). o.select) q.same)
