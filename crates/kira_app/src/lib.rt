@@ -23,4 +23,6 @@ pub use top::kira_alone;
 #[cfg(test)]
 mod refusals;
 #[cfg(test)]
+mod test_jobs;
+#[cfg(test)]
 mod tests;

@@ -2,6 +2,7 @@
 //! job with every key is accepted, and is refused once some of its lines are replaced.
 
 use super::*;
+use crate::test_jobs::TADPOLE;
 use crate::tests::{Ending, call_with, entry, plain_sink};
 use kira_outside::MemoryFiles;
 use std::alloc::Global;
@@ -129,7 +130,7 @@ fn edited(
 #[test]
 fn the_job_with_every_key_is_accepted(rt: HostRuntime) -> Result<(), Fail> {
     let ended = call(rt.alloc(), ACCEPTED, "jobs.yaml s=-1/2 d=4 prime=7")?;
-    assert_eq!(rt; ended.status, Status::NotYet);
+    assert!(rt; matches!(ended.status, Status::NotYet));
     Ok(())
 }
 
@@ -1171,7 +1172,7 @@ fn faults_that_two_places_make(rt: HostRuntime) -> Result<(), Fail> {
     let ended = call(alloc, texts, "jobs.yaml s=1")?;
     assert!(rt; refuses(alloc, &ended, "jobs.yaml:19: no value given", "")?);
     let ended = call(alloc, texts, "jobs.yaml d=1")?;
-    assert_eq!(rt; ended.status, Status::NotYet);
+    assert!(rt; matches!(ended.status, Status::NotYet));
 
     let text = edited(alloc, FAMILIES, 4, 1, "    top_level_sectors: [1]")?;
     let texts = Texts {
@@ -1285,12 +1286,11 @@ const TADPOLE_FAULTS: [(&str, &str, &str, &str, &str); 9] = [
 // The text, edited where this is the file that is to be.
 fn tadpole_text(
     alloc: Global,
-    text: &[u8],
+    text: &str,
     is_edited: bool,
     old: &str,
     new: &str,
 ) -> Result<String, Fail> {
-    let text = str::from_utf8(text)?;
     if is_edited {
         Ok(text.replace(alloc, old, new)?)
     } else {
@@ -1303,15 +1303,9 @@ fn faults_of_the_tadpole(rt: HostRuntime) -> Result<(), Fail> {
     let alloc = rt.alloc();
     for fault in &TADPOLE_FAULTS {
         let (file, old, new, words, message) = *fault;
-        let jobs = tadpole_text(alloc, tadpole_files::JOBS, file == "jobs", old, new)?;
-        let families = tadpole_text(alloc, tadpole_files::FAMILIES, file == "families", old, new)?;
-        let kinematics = tadpole_text(
-            alloc,
-            tadpole_files::KINEMATICS,
-            file == "kinematics",
-            old,
-            new,
-        )?;
+        let jobs = tadpole_text(alloc, TADPOLE.jobs, file == "jobs", old, new)?;
+        let families = tadpole_text(alloc, TADPOLE.families, file == "families", old, new)?;
+        let kinematics = tadpole_text(alloc, TADPOLE.kinematics, file == "kinematics", old, new)?;
         let texts = Texts {
             jobs: jobs.as_str(),
             families: families.as_str(),
