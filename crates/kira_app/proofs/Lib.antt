@@ -1,2 +1,4 @@
 pub mod Told
+pub mod Loaded
+pub mod ListLoading
 pub mod Agreement

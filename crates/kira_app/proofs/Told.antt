@@ -1,17 +1,21 @@
 -- Steps that read files, one after another.
-use Rattle.std.proofs.Common.{◌≡◌, ℕ, Option, None, Some, Result, Ok, Err, refl, sym, subst}
+use Rattle.std.proofs.Common.{◌≡◌, ℕ, Option, None, Some, Result, Ok, Err, IfErr, refl, sym, subst}
 use Rattle.std.specs.Result.{IsErrAnd}
 use Rattle.kira_outside.specs.Held.{Held}
 use Rattle.kira_app.specs.declared.status.Status.{Status}
 use Rattle.kira_app.specs.declared.status.Status.TheVariants as status
 use Rattle.kira_app.specs.declared.refusal.Refusal.{Refusal}
 use Rattle.kira_app.specs.Steps.{Answer, Step, After, Then, plain, plainly}
-use Rattle.kira_app.specs.Told.{IfTold, ByStatus, Refuses, Answers, RefusesTold, Tells}
+use Rattle.kira_app.specs.Told.{IfTold, ByStatus, SaysMissing, Refuses, Answers, RefusesTold, Tells}
 
 -- what is told of one step is told of another that follows from it
 pub weaker : (held : Option Held) (P Q : Held → Type 0) → ((files : Held) → P files → Q files) → IfTold held P → IfTold held Q
 weaker None P Q f h = tt
 weaker (Some files) P Q f h = f files h
+
+pub always : (held : Option Held) (P : Held → Type 0) → ((files : Held) → P files) → IfTold held P
+always None P h = tt
+always (Some files) P h = h files
 
 pub both : (held : Option Held) (P Q R : Held → Type 0) → ((files : Held) → P files → Q files → R files) → IfTold held P → IfTold held Q → IfTold held R
 both None P Q R f h k = tt
@@ -85,3 +89,35 @@ goes_on held held' before before' now first next a r same count found h =
 pub stops : {A B : Type 0} (held : Option Held) (before now : ℕ) (first : Held → Step A) (next : A → Held → Step B) (e : Refusal) →
     RefusesTold held before now first e → RefusesTold held before now (λ files. Then (first files) (λ x. next x files)) e
 stops held before now first next e h = refused_first held before now first (λ files. Then (first files) (λ x. next x files)) (λ files r is. then_refused (first files) (λ x. next x files) r is) e h
+
+-- ---- steps that read no files, behind steps that do
+
+pub refused_then : {A B : Type 0} (first : Step A) (next : A → Step B) (e : Refusal) → Refuses first e → Refuses (Then first next) e
+refused_then first next e h = by_status e.status _ _ _ _ (λ no. no) (then_refused first next e) h
+
+pub refused_later : {A B : Type 0} (first : Step A) (next : A → Step B) (a : A) (e : Refusal) → first (Ok a) → Refuses (next a) e → Refuses (Then first next) e
+refused_later first next a e is h = by_status e.status _ _ _ _ (λ no. no) (λ k. then_is first next a (Err e) is k) h
+
+-- what was told, and then the refusal of a step that reads no files
+pub told_later : {A B : Type 0} (held : Option Held) (before now : ℕ) (first : Held → Step A) (next : A → Step B) (a : A) (e : Refusal) →
+    IfTold held (λ files. first files (Ok a)) → Refuses (next a) e → RefusesTold held before now (λ files. Then (first files) next) e
+told_later held before now first next a e found h =
+    by_status e.status _ _ _ _ (λ no. absurd no) (λ k. weaker held _ _ (λ files is. then_is (first files) next a (Err e) is k) found) h
+
+-- a status that says that a file is missing is that of a step
+pub missing_said : (s : Status) (failed refused : Type 0) → SaysMissing s → ByStatus s failed refused → refused
+missing_said (status.Input f) failed refused missing h = h
+missing_said status.OutOfMemory failed refused missing h = absurd missing
+missing_said status.ReadFault failed refused missing h = absurd missing
+missing_said status.Ok failed refused missing h = absurd missing
+missing_said status.WriteFault failed refused missing h = absurd missing
+missing_said (status.Singular c) failed refused missing h = absurd missing
+missing_said (status.RulesClash m r) failed refused missing h = absurd missing
+missing_said (status.Composite f) failed refused missing h = absurd missing
+missing_said (status.TooMany what count) failed refused missing h = absurd missing
+missing_said status.NotYet failed refused missing h = absurd missing
+
+-- what holds of the error that `?` hands on
+pub of_error : {A : Type 0} (r : Result A Status) (e : Status) (P : Status → Type 0) → IsErrAnd r (λ x. x ≡ e) → P e → IfErr r P
+of_error (Ok a) e P h k = absurd h
+of_error (Err x) e P h k = subst P (sym h) k

@@ -1,9 +1,9 @@
 //! What the files of a job hold, loaded in their order.
 
-ghost use Rattle.std.specs.Prelude.{◌≡◌, ◌⊎◌, ◌≤◌, ◌<◌, ◌^◌, Ok, All, length, map, IfOk, IfErr};
+ghost use Rattle.std.specs.Prelude.{◌≡◌, ◌⊎◌, ◌≤◌, ◌<◌, ◌^◌, Ok, [], ◌∷◌, ◌++◌, All, length, map, IfOk, OnOk, IfErr};
 ghost use Rattle.std.specs.Str.{IsAscii};
 ghost use Rattle.input_schema.specs.Readings as input;
-ghost use Rattle.kira_app.specs.Steps.{Is, OfReading, plainly, texts_of, bytes_of};
+ghost use Rattle.kira_app.specs.Steps.{Is, OfReading, plain, plainly, texts_of, bytes_of};
 ghost use Rattle.kira_app.specs.Sources.{tree_in, list_of, TreeOf, KinematicsOf, FamiliesOf, TreesOf, ListsOf, OutlineOf, Outlines, served, SourcesWith, ReadsSources};
 ghost use Rattle.kira_app.specs.TopClauses.{IsMissedIn};
 ghost use Rattle.kira_app.specs.Told.{Tells, Answers, IsMissed, IsPresent};
@@ -119,7 +119,8 @@ pub(crate) fn outline(
 
 // That a job is served: it names no symmetry.
 fn served(outline: &Outline) -> Result<(), Status>
-    ensures { plainly result ≡ served outline.now }
+    ensures served { plainly result ≡ served outline.now }
+    ensures err { IfErr result (λ status. status ≡ Status.NotYet) }
 {
     if outline.has_symmetry() {
         Err(Status::NotYet)
@@ -166,6 +167,17 @@ fn load_list<F: Files>(
     }
 }
 
+// Puts a text behind the others.
+fn push_text(alloc: Global, texts: &mut Vec<Vec<u8>>, text: Vec<u8>) -> Result<(), Refusal>
+    ensures ok { OnOk result (texts.new.items ≡ texts.old.items ++ text ∷ []) }
+    ensures err { IfErr result (λ refusal. refusal ≡ plain Status.OutOfMemory) }
+{
+    match texts.push(text) {
+        Ok(()) => Ok(()),
+        Err(_) => Err(Refusal::plain(alloc, Status::OutOfMemory)),
+    }
+}
+
 // Loads the list files of an outline in their order.
 fn load_lists<F: Files>(
     alloc: Global,
@@ -181,9 +193,7 @@ fn load_lists<F: Files>(
     let mut lists = Vec::new(alloc);
     for number in 0..outline.list_count() {
         let text = load_list(alloc, files, number, outline.list_name(number))?;
-        if lists.push(text).is_err() {
-            return Err(Refusal::plain(alloc, Status::OutOfMemory));
-        }
+        push_text(alloc, &mut lists, text)?;
     }
     Ok(lists)
 }

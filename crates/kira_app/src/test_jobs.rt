@@ -12,6 +12,16 @@ pub(crate) struct Files {
 /// No list file.
 pub(crate) const NO_LIST: (&str, &str) = ("", "");
 
+// One squared mass, and no external momentum.
+const ONE_MASS: &str = "\
+kinematics :
+  incoming_momenta: []
+  outgoing_momenta: []
+  kinematic_invariants:
+    - [m2, 2]
+  scalarproduct_rules: []
+";
+
 pub(crate) const TADPOLE: Files = Files {
     jobs: "\
 jobs:
@@ -34,14 +44,7 @@ integralfamilies:
     propagators:
       - [\"k1\", \"m2\"]
 ",
-    kinematics: "\
-kinematics :
-  incoming_momenta: []
-  outgoing_momenta: []
-  kinematic_invariants:
-    - [m2, 2]
-  scalarproduct_rules: []
-",
+    kinematics: ONE_MASS,
     list: NO_LIST,
 };
 
@@ -62,7 +65,7 @@ integralfamilies:
   - {name: tad, loop_momenta: [k1], propagators: [[k1, m2]]}
   - {name: tbd, loop_momenta: [k1], propagators: [[k1, m2]]}
 ",
-    kinematics: TADPOLE.kinematics,
+    kinematics: ONE_MASS,
     list: NO_LIST,
 };
 
@@ -100,6 +103,30 @@ kinematics:
     list: NO_LIST,
 };
 
+const TRIANGLE_FAMILY: &str = "\
+integralfamilies:
+  - name: \"tri\"
+    loop_momenta: [k1]
+    top_level_sectors: [7]
+    propagators:
+      - [\"k1\", 0]
+      - [\"k1+p1\", 0]
+      - [\"k1-p2\", 0]
+    zero_sectors: [3, 5]
+";
+
+const TWO_MASSLESS_LEGS: &str = "\
+kinematics:
+  incoming_momenta: [p1, p2, p3]
+  momentum_conservation: [p3, -p1-p2]
+  kinematic_invariants:
+    - [s, 2]
+  scalarproduct_rules:
+    - [[p1,p1], 0]
+    - [[p2,p2], 0]
+    - [[p1+p2,p1+p2], s]
+";
+
 pub(crate) const TRIANGLE: Files = Files {
     jobs: "\
 jobs:
@@ -111,28 +138,8 @@ jobs:
           - {topologies: [tri], sectors: [7], r: 3, s: 0}
       numeric_point: {prime: 101, d: 7, s: 5}
 ",
-    families: "\
-integralfamilies:
-  - name: \"tri\"
-    loop_momenta: [k1]
-    top_level_sectors: [7]
-    propagators:
-      - [\"k1\", 0]
-      - [\"k1+p1\", 0]
-      - [\"k1-p2\", 0]
-    zero_sectors: [3, 5]
-",
-    kinematics: "\
-kinematics:
-  incoming_momenta: [p1, p2, p3]
-  momentum_conservation: [p3, -p1-p2]
-  kinematic_invariants:
-    - [s, 2]
-  scalarproduct_rules:
-    - [[p1,p1], 0]
-    - [[p2,p2], 0]
-    - [[p1+p2,p1+p2], s]
-",
+    families: TRIANGLE_FAMILY,
+    kinematics: TWO_MASSLESS_LEGS,
     list: NO_LIST,
 };
 
@@ -148,8 +155,9 @@ jobs:
           - [tri, wanted]
       numeric_point: {prime: 101, d: 7, s: 5}
 ",
+    families: TRIANGLE_FAMILY,
+    kinematics: TWO_MASSLESS_LEGS,
     list: ("wanted", "tri[1,1,0]\n"),
-    ..TRIANGLE
 };
 
 pub(crate) const BOX: Files = Files {
@@ -217,6 +225,6 @@ integralfamilies:
     propagators: [[k1, m2], [k2, m2], [k1-k2, 0]]
     zero_sectors: [5, 6]
 ",
-    kinematics: TADPOLE.kinematics,
+    kinematics: ONE_MASS,
     list: ("vaclist", "vac[2,1,1]\n"),
 };
