@@ -30,7 +30,7 @@ use Rattle.kira_app.specs.declared.refusal.Refusal.{Refusal}
 use Rattle.kira_app.specs.Steps.{Answer, Step, Is, After, Then, Each, plain, OfReading, OfPlan}
 use Rattle.kira_app.specs.Words.{are_served, job_file, overrides_of}
 use Rattle.kira_app.specs.Sources.{Sources, TreeOf, KinematicsOf, FamiliesOf, TreesOf, ListsOf, OutlineOf, Outlines, SourcesWith, ReadsSources, list_of_entry, no_list, tree_of}
-use Rattle.kira_app.specs.Plans.{status_of, refusal_of, PlanOfSources, PlanOf}
+use Rattle.kira_app.specs.Plans.{status_of, refusal_of, PlanOfSources, served_words, PlanOf}
 use Rattle.kira_app.specs.TopClauses.{IsAlike, IsDivisorIn}
 use Rattle.kira_app.specs.Laws.{AreAlike, NamesDivisorIn, JobsAgree, JobsNameDivisors}
 
@@ -266,6 +266,9 @@ free_entry : (number : ℕ) (name : Bytes) (entry : Option Bytes) → IsFree (li
 free_entry number name None = refl
 free_entry number name (Some bytes) = free_if (nat_lt (2 ^ 24) (length bytes)) (Err (no_list number name TooLong)) (Ok bytes) refl tt
 
+none_served : (words : List Bytes) → NoDivisor (Is (served_words words))
+none_served words = none_is (served_words words) (free_if (are_served words) (Ok tt) (Err (plain status.NotYet)) tt refl)
+
 none_tree : (file : File) (name : Bytes) (held : Held) → NoDivisor (TreeOf file name held)
 none_tree file name held = none_reading (input.Is (tree_of file name held))
 
@@ -311,9 +314,9 @@ module _ (moduli : OutlinesHaveAModulus) (law : PlansNameDivisors) (words : List
 
   job_names : Naming (PlanOf words held)
   job_names =
-      names_then _ _ (names_none _ (none_is _ (free_if (are_served words) _ _ tt refl))) (λ _ served.
-      names_then _ _ (names_none _ (none_sources (overrides_of words) (job_file words) held)) (λ sources read.
-      names_then _ _ (names_none _ (none_outline (overrides_of words) sources.trees)) (λ outline outlined.
+      names_then _ _ (names_none (Is (served_words words)) (none_served words)) (λ _ served.
+      names_then _ _ (names_none (ReadsSources (overrides_of words) (job_file words) held) (none_sources (overrides_of words) (job_file words) held)) (λ sources read.
+      names_then _ _ (names_none (OutlineOf (overrides_of words) sources.trees) (none_outline (overrides_of words) sources.trees)) (λ outline outlined.
       outline_names sources.trees (trees_read (overrides_of words) (job_file words) held sources read) outline outlined sources.lists)))
 
 pub jobs_name_divisors : OutlinesHaveAModulus → PlansNameDivisors → JobsNameDivisors

@@ -1,4 +1,6 @@
 pub mod Told
 pub mod Loaded
 pub mod ListLoading
+pub mod TextOfTable
+pub mod Messages
 pub mod Agreement

@@ -98,6 +98,10 @@ refused_then first next e h = by_status e.status _ _ _ _ (λ no. no) (then_refus
 pub refused_later : {A B : Type 0} (first : Step A) (next : A → Step B) (a : A) (e : Refusal) → first (Ok a) → Refuses (next a) e → Refuses (Then first next) e
 refused_later first next a e is h = by_status e.status _ _ _ _ (λ no. no) (λ k. then_is first next a (Err e) is k) h
 
+pub answers_later : {A B : Type 0} (first : Step A) (next : A → Step B) (a : A) (r : Answer B) → first (Ok a) → Answers (next a) r → Answers (Then first next) r
+answers_later first next a (Ok b) is h = then_is first next a (Ok b) is h
+answers_later first next a (Err e) is h = refused_later first next a e is h
+
 -- what was told, and then the refusal of a step that reads no files
 pub told_later : {A B : Type 0} (held : Option Held) (before now : ℕ) (first : Held → Step A) (next : A → Step B) (a : A) (e : Refusal) →
     IfTold held (λ files. first files (Ok a)) → Refuses (next a) e → RefusesTold held before now (λ files. Then (first files) next) e

@@ -41,8 +41,12 @@ file_name job list file.Families = codes "config/integralfamilies.yaml"
 file_name job list file.Kinematics = codes "config/kinematics.yaml"
 file_name job list (file.List number) = list
 
+-- what is wrong at a line of a file
+abbrev pub line_pieces : Bytes → ℕ → Bytes → List Bytes
+line_pieces name line text = name ∷ codes ":" ∷ decimal line ∷ codes ": " ∷ text ∷ []
+
 abbrev pub fault_pieces : Bytes → InputFault → List Bytes
-fault_pieces name fault = name ∷ codes ":" ∷ decimal fault.line ∷ codes ": " ∷ text_of fault.kind ∷ []
+fault_pieces name fault = line_pieces name fault.line (text_of fault.kind)
 
 abbrev pub zero_pieces : Bytes → ℕ → ℕ → List Bytes
 zero_pieces name line at = name ∷ codes ":" ∷ decimal line ∷ codes ": division by zero at byte " ∷ decimal at ∷ []

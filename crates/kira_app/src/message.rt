@@ -5,7 +5,7 @@ ghost use Rattle.std.specs.List.{concat};
 ghost use Rattle.kira_outside.specs.Faults.{Rose};
 ghost use Rattle.kira_outside.specs.Stream.{appended};
 ghost use Rattle.table_text.specs.Sending.{IsPrefixSent};
-ghost use Rattle.kira_app.specs.Message.{file_name, fault_pieces, zero_pieces, dependent_pieces, singular_pieces, divisor_pieces, excess_text, line_of, message_text, IsToldOf};
+ghost use Rattle.kira_app.specs.Message.{file_name, line_pieces, fault_pieces, zero_pieces, dependent_pieces, singular_pieces, divisor_pieces, excess_text, line_of, message_text, IsToldOf};
 
 use crate::{Refusal, Status};
 use itoa::Buffer;
@@ -86,15 +86,25 @@ fn write_fault<E: Sink>(fault: &InputFault, name: &str, err: &mut E) -> Result<(
     ensures failed { OnErr result (Rose (E.faults err.old) (E.faults err.new)) }
     ensures never_falls { E.faults err.old ≤ E.faults err.new }
 {
-    let mut line = Buffer::new();
+    write_at(name, fault.line, fault.kind.text(), err)
+}
+
+// What is wrong at this line of the file with this name.
+fn write_at<E: Sink>(name: &str, line: u32, text: &str, err: &mut E) -> Result<(), WriteFault>
+    ensures written { OnOk result (E.told err.new ≡ option_map (appended (line_of (line_pieces name.now line text.now))) (E.told err.old)) }
+    ensures prefix { OnErr result (IsPrefixSent (line_of (line_pieces name.now line text.now)) (E.told err.old) (E.told err.new)) }
+    ensures failed { OnErr result (Rose (E.faults err.old) (E.faults err.new)) }
+    ensures never_falls { E.faults err.old ≤ E.faults err.new }
+{
+    let mut buffer = Buffer::new();
     write_pieces(
         &[
             b"kira: ",
             name.as_bytes(),
             b":",
-            line.format(fault.line).as_bytes(),
+            buffer.format(line).as_bytes(),
             b": ",
-            fault.kind.text().as_bytes(),
+            text.as_bytes(),
             b"\n",
         ],
         err,
