@@ -1,7 +1,7 @@
 //! `kira`: reduces the loop integrals of a job to master integrals, modulo a prime.
 #![tactic(auto)]
 
-use kira_app::{Status, exit_code, kira_alone, tell};
+use kira_app::{Refusal, Status, exit_code, kira_alone, tell};
 use kira_outside::{HostFiles, HostSink};
 use std::process::ExitCode;
 use std::{env, io};
@@ -25,8 +25,9 @@ fn main(rt: HostRuntime) -> ExitCode {
     let status = match words(&rt) {
         Ok(words) => kira_alone(rt.alloc(), &words, &mut files, &mut out, &mut err),
         Err(status) => {
-            tell(&status, "", &mut err);
-            status
+            let refusal = Refusal::plain(rt.alloc(), status);
+            tell(&refusal, "", &mut err);
+            refusal.status
         }
     };
     ExitCode::from(exit_code(&status))

@@ -75,13 +75,13 @@ single_reading reading one r q h k =
 single_tree : (file : _) (name : Bytes) (held : Held) → Single (TreeOf file name held)
 single_tree file name held = single_reading _ (input_steps.is_single _)
 
-single_trees : (name : Bytes) (held : Held) → Single (TreesOf name held)
+pub single_trees : (name : Bytes) (held : Held) → Single (TreesOf name held)
 single_trees name held =
     single_then _ _ (single_tree _ name held) (λ jobs.
     single_then _ _ (single_tree _ _ held) (λ families.
     single_then _ _ (single_tree _ _ held) (λ kinematics. single_is _)))
 
-single_outline : OutlineIsSingle → (overrides : List Override) (trees : Trees) → Single (OutlineOf overrides trees)
+pub single_outline : OutlineIsSingle → (overrides : List Override) (trees : Trees) → Single (OutlineOf overrides trees)
 single_outline law overrides trees = single_reading _ (law trees.families trees.kinematics trees.jobs overrides)
 
 single_lists : (files : List ListFile) (held : Held) → Single (ListsOf files held)
@@ -99,7 +99,7 @@ split : {A B : Type 0} (first : Step A) (next : A → Step B) (b : B) (o : Answe
 split first next b (Ok a) h k = (a, h, k)
 split first next b (Err e) h k = absurd (true≢false (ap is_ok k))
 
-parted : {A B : Type 0} (first : Step A) (next : A → Step B) (b : B) → Then first next (Ok b) → (a : A) × first (Ok a) × next a (Ok b)
+pub parted : {A B : Type 0} (first : Step A) (next : A → Step B) (b : B) → Then first next (Ok b) → (a : A) × first (Ok a) × next a (Ok b)
 parted first next b h = split first next b h.answer h.is h.after
 
 abbrev value_or : {A : Type 0} → A → Answer A → A
@@ -107,7 +107,7 @@ value_or d (Ok a) = a
 value_or d (Err e) = d
 
 -- the trees of sources are those that were read
-trees_read : (overrides : List Override) (name : Bytes) (held : Held) (sources : Sources) → ReadsSources overrides name held (Ok sources) → TreesOf name held (Ok sources.trees)
+pub trees_read : (overrides : List Override) (name : Bytes) (held : Held) (sources : Sources) → ReadsSources overrides name held (Ok sources) → TreesOf name held (Ok sources.trees)
 trees_read overrides name held sources h =
     let one = parted _ _ sources h in
     let two = parted _ _ one.0 one.1 in

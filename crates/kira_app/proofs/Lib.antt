@@ -4,3 +4,4 @@ pub mod ListLoading
 pub mod TextOfTable
 pub mod Messages
 pub mod Agreement
+pub mod Causes

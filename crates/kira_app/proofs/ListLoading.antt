@@ -43,10 +43,12 @@ pub listed_one : (files : List ListFile) (found : List Bytes) (bytes : Bytes) (h
     list_of (length found) (list_at files (length found)) held ≡ Ok bytes → HasListed files (found ++ bytes ∷ []) held
 listed_one files found bytes held inside h is =
     let size : length (found ++ bytes ∷ []) ≡ length found + 1 = length-append found (bytes ∷ []) in
-    record { whole = λ r rest. h.whole r (subst (λ (xs : List ListFile). Each (Step held) found xs r) (sym (at_place files (length found) none inside))
-    (then_is (Step held found (get_or files (length found) none)) (λ a. Each (Step held) (found ++ a ∷ []) (drop (length found + 1) files)) bytes r
-    (subst (λ (name : Bytes). list_of (length found) name held ≡ Ok bytes) (named files (length found) inside) is)
-    (subst (λ n. Each (Step held) (found ++ bytes ∷ []) (drop n files) r) size rest))) }
+    record {
+      whole = λ r rest. h.whole r (subst (λ (xs : List ListFile). Each (Step held) found xs r) (sym (at_place files (length found) none inside))
+          (then_is (Step held found (get_or files (length found) none)) (λ a. Each (Step held) (found ++ a ∷ []) (drop (length found + 1) files)) bytes r
+          (subst (λ (name : Bytes). list_of (length found) name held ≡ Ok bytes) (named files (length found) inside) is)
+          (subst (λ n. Each (Step held) (found ++ bytes ∷ []) (drop n files) r) size rest)));
+    }
 
 pub listed_all : (files : List ListFile) (found : List Bytes) (held : Held) → length files ≤ length found → HasListed files found held → ListsOf files held (Ok found)
 listed_all files found held all h = h.whole (Ok found) (subst (λ (xs : List ListFile). Each (Step held) found xs (Ok found)) (sym (at_drop_all (λ (xs : List ListFile). xs) files (length found) all)) refl)

@@ -1,5 +1,5 @@
 -- The law of what the words and the files ask for. The project's own.
-use Rattle.std.specs.Prelude.{◌≡◌, ◌⊎◌, List, Ok, Err}
+use Rattle.std.specs.Prelude.{◌≡◌, ◌⊎◌, ℕ, List, Ok, Err}
 use Rattle.yaml_text.specs.Lines.{Bytes}
 use Rattle.field_word.specs.declared.Composite.{Composite}
 use Rattle.kira_outside.specs.Held.{Held}
@@ -8,7 +8,7 @@ use Rattle.kira_app.specs.declared.status.Status.TheVariants as status
 use Rattle.kira_app.specs.declared.refusal.Refusal.{Refusal}
 use Rattle.kira_app.specs.Steps.{Answer}
 use Rattle.kira_app.specs.Plans.{PlanOf}
-use Rattle.kira_app.specs.TopClauses.{IsAlike, IsDivisorIn}
+use Rattle.kira_app.specs.TopClauses.{IsAlike, IsDivisor, IsDivisorIn}
 
 -- the same plan, or statuses that are equal but for the vector or the multipliers that they show
 abbrev pub AreAlike : Answer Plan → Answer Plan → Type 0
@@ -31,3 +31,8 @@ abbrev pub JobsNameDivisors : Type 0
 JobsNameDivisors =
     (words : List Bytes) (held : Held) (refusal : Refusal) (fault : Composite) → PlanOf words held (Err refusal) → refusal.status ≡ status.Composite fault
     → IsDivisorIn words fault.divisor held
+
+-- a divisor of the modulus that the job names is one of its plan's modulus
+abbrev pub JobsHaveOneModulus : Type 0
+JobsHaveOneModulus =
+    (words : List Bytes) (held : Held) (plan : Plan) (divisor : ℕ) → PlanOf words held (Ok plan) → IsDivisorIn words divisor held → IsDivisor plan.modulus divisor

@@ -167,6 +167,6 @@ IsAlike (status.Singular (singular.NotBasis family vector)) s = (other : List �
 IsAlike (status.RulesClash multipliers residue) s = (others : List ℕ) × (other : ℕ) × (s ≡ status.RulesClash others other)
 IsAlike one s = s ≡ one
 
--- The refusal is the answer, but for want of memory and for a divisor of the modulus, which a prime doesn't have.
-abbrev pub IsAnsweredBy : Status → Status → Type 0
-IsAnsweredBy refusal s = IsAlike refusal s ⊎ ((s ≡ status.OutOfMemory) ⊎ ((divisor : _) × (s ≡ status.Composite divisor)))
+-- The refusal is the answer, but for want of memory, and for a divisor of the modulus, which a prime doesn't have.
+abbrev pub IsAnsweredBy : List Bytes → Held → Status → Status → Type 0
+IsAnsweredBy words held refusal s = IsAlike refusal s ⊎ ((s ≡ status.OutOfMemory) ⊎ ((divisor : ℕ) × IsDivisorIn words divisor held))

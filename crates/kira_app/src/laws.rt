@@ -1,6 +1,6 @@
 //! The law of what the words and the files ask for, as the contract of a function that does nothing.
 
-ghost use Rattle.kira_app.specs.Laws.{JobsAgree, JobsNameDivisors};
+ghost use Rattle.kira_app.specs.Laws.{JobsAgree, JobsNameDivisors, JobsHaveOneModulus};
 
 use job_plan::{outline_is_single, outlines_have_a_modulus, plans_agree};
 
@@ -10,6 +10,7 @@ use job_plan::{outline_is_single, outlines_have_a_modulus, plans_agree};
 pub fn jobs_agree()
     ensures agree { JobsAgree }
     ensures divisors { JobsNameDivisors }
+    ensures modulus { JobsHaveOneModulus }
 {
     outline_is_single();
     outlines_have_a_modulus();

@@ -10,7 +10,9 @@ ghost use Rattle.kira_app.specs.Told.{Tells, Answers, IsMissed, IsPresent};
 
 use crate::job_files::{Sources, Trees};
 use crate::{Refusal, Status};
-use job_plan::{File, InputFault, InputKind, Outline, Override, PlanError, outlines_have_a_modulus};
+use job_plan::{
+    File, InputFault, InputKind, Outline, Override, PlanError, outlines_have_a_modulus,
+};
 use kira_outside::{Files, LoadFault};
 use std::alloc::Global;
 use yaml_text::{Text, Tree, YamlError};

@@ -23,8 +23,8 @@ impl Refusal {
     ghost use Rattle.std.specs.Prelude.{◌≡◌};
     ghost use Rattle.kira_app.specs.Steps.{plain};
 
-    // A refusal whose message names nothing but what the status has.
-    pub(crate) fn plain(alloc: Global, status: Status) -> Refusal
+    /// A refusal whose message names nothing but what the status has.
+    pub fn plain(alloc: Global, status: Status) -> Refusal
         ensures { result ≡ plain status }
     {
         Refusal {

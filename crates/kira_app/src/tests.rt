@@ -71,7 +71,12 @@ pub(crate) fn plain_sink(alloc: Global) -> Result<MemorySink, Fail> {
 
 fn call(alloc: Global, files: &Files, line: &str) -> Result<Ending, Fail> {
     let mut out = plain_sink(alloc)?;
-    call_with(alloc, line, &mut held(alloc, files, Vec::new(alloc))?, &mut out)
+    call_with(
+        alloc,
+        line,
+        &mut held(alloc, files, Vec::new(alloc))?,
+        &mut out,
+    )
 }
 
 // Whether the call printed this table, and nothing else.
@@ -318,12 +323,18 @@ fn faults_of_list_files(rt: HostRuntime) -> Result<(), Fail> {
             ("boxlist", "box[1,1,1,1]\n# none\nbix[1,1,1,1]\n"),
             "kira: boxlist:3: unknown name\n",
         ),
-        (("boxlist", "box[1,1,1]\n"), "kira: boxlist:1: wrong count\n"),
+        (
+            ("boxlist", "box[1,1,1]\n"),
+            "kira: boxlist:1: wrong count\n",
+        ),
         (("boxlist", "box 1\n"), "kira: boxlist:1: not an integral\n"),
     ];
     for (list, line) in rows {
         let files = Files { list, ..BOX };
-        assert!(rt; refuses(&call(alloc, &files, "jobs.yaml")?, 3, line), "{line}");
+        assert!(rt;
+            refuses(&call(alloc, &files, "jobs.yaml")?, 3, line),
+            "{line}"
+        );
     }
     Ok(())
 }
@@ -361,7 +372,10 @@ fn a_failing_write_leaves_a_prefix(rt: HostRuntime) -> Result<(), Fail> {
             let sent = TADPOLE_TABLE
                 .len()
                 .min((call as usize - 1).saturating_mul(piece));
-            assert!(rt; matches!(ended.status, Status::WriteFault), "{piece} {call}");
+            assert!(rt;
+                matches!(ended.status, Status::WriteFault),
+                "{piece} {call}"
+            );
             assert_eq!(rt;
                 ended.out.as_slice(),
                 &TADPOLE_TABLE.as_bytes()[..sent],

@@ -1,6 +1,7 @@
 //! The call that the program makes.
 
 ghost use Rattle.std.specs.Prelude.{◌≡◌, ◌≢◌, ◌⊎◌, ◌≤◌, ◌<◌, [], codes, Some, None, Ok, Err, false, true, map, IfOk, OnOk, IfErr, ℕ, List};
+ghost use Rattle.std.specs.Result.{IsErrAnd};
 ghost use Rattle.std.specs.String.{string_bytes};
 ghost use Rattle.input_schema.specs.declared.faults.InputFault.{InputFault};
 ghost use Rattle.field_word.specs.declared.Composite.{Composite as CompositeValue};
@@ -16,8 +17,8 @@ ghost use Rattle.kira_app.specs.Plans.{PlanOf};
 ghost use Rattle.kira_app.specs.TopClauses.{IsTextOf, IsSent, IsPartlySent, HavePlan, AreRefused, IsDivisorIn, IsPrime, IsMissedIn, HasCause, HasEnded, IsExplained, IsAnsweredBy};
 
 use crate::laws::jobs_agree;
-use crate::reduction::table_of;
 use crate::loading::sources;
+use crate::reduction::table_of;
 use crate::words::{are_served, job_file, overrides};
 use crate::{Refusal, Status, tell};
 use job_plan::Plan;
@@ -29,7 +30,7 @@ use table_text::send;
 fn plan_of<F: Files>(alloc: Global, words: &[String], files: &mut F) -> Result<Plan, Refusal>
     ensures plan { Tells (F.held files.old) (F.faults files.old) (F.faults files.new) (PlanOf (map string_bytes words.now)) result }
     ensures missing { IfErr result (λ refusal. IsMissedIn (F.held files.old) (F.faults files.old) (F.faults files.new) refusal.status) }
-    ensures words_first { are_served (map string_bytes words.now) ≡ false → IfErr result (λ refusal. refusal.status ≡ Status.NotYet) }
+    ensures words_first { are_served (map string_bytes words.now) ≡ false → IsErrAnd result (λ refusal. refusal.status ≡ Status.NotYet) }
     ensures same { F.held files.new ≡ F.held files.old }
 {
     if !are_served(words) {
@@ -62,10 +63,11 @@ fn ended<F: Files, O: Sink>(
       out_faults_after = O.faults out.new;
     }) result }
     ensures missing { IfErr result (λ refusal. IsMissedIn (F.held files.old) (F.faults files.old) (F.faults files.new) refusal.status) }
-    ensures words_first { are_served (map string_bytes words.now) ≡ false → IfErr result (λ refusal. refusal.status ≡ Status.NotYet) }
+    ensures words_first { are_served (map string_bytes words.now) ≡ false → IsErrAnd result (λ refusal. refusal.status ≡ Status.NotYet) }
     ensures silent { IfErr result (λ refusal. refusal.status ≢ Status.WriteFault → out.new ≡ out.old) }
     ensures same { F.held files.new ≡ F.held files.old }
 {
+    jobs_agree();
     let plan = plan_of(alloc, words, files)?;
     match table_of(alloc, &plan) {
         Ok(bytes) => match send(&bytes, out) {
@@ -112,7 +114,7 @@ pub fn kira_alone<F: Files, O: Sink, E: Sink>(
     // And where the cause is there, the answer comes.
     ensures words_first { are_served (map string_bytes words.now) ≡ false → result ≡ Status.NotYet }
     ensures first_refusal { (held : Held) (refusal : StatusValue) → F.held files.old ≡ Some held → AreRefused (map string_bytes words.now) refusal held
-        → ¬ (Rose (F.faults files.old) (F.faults files.new)) → IsAnsweredBy refusal result }
+        → ¬ (Rose (F.faults files.old) (F.faults files.new)) → IsAnsweredBy (map string_bytes words.now) held refusal result }
 
     // Nothing is written before the whole text is made.
     ensures silent { result ≢ Status.Ok → result ≢ Status.WriteFault → out.new ≡ out.old }

@@ -1,0 +1,260 @@
+-- From what a call answers to its cause, and back.
+use Rattle.std.proofs.Common.{◌≡◌, ◌≢◌, ◌⊎◌, ◌<◌, inl, inr, ℕ, Bool, true, false, cond, Option, Some, List, [], Ok, Err, IfErr, Result, refl, sym, ap, ◌∙◌, subst, arith}
+use Rattle.std.specs.Result.{is_ok, IsErrAnd}
+use Rattle.std.proofs.lemmas.Bool.{true≢false}
+use Rattle.yaml_text.specs.Lines.{Bytes}
+use Rattle.kira_outside.specs.Faults.{Rose}
+use Rattle.kira_outside.specs.Held.{Held}
+use Rattle.kinematics_schema.specs.declared.content.Kinematics.{Kinematics}
+use Rattle.family_schema.specs.declared.content.Family.{Family}
+use Rattle.job_schema.specs.Overridden.{Override}
+use Rattle.job_point.specs.declared.points.AtPoint.{AtPoint}
+use Rattle.job_point.specs.Steps as point
+use Rattle.job_point.specs.Point.{IsAtPoint}
+use Rattle.job_plan.specs.Laws.{OutlineIsSingle}
+use Rattle.job_plan.specs.Outlines.{Outline}
+use Rattle.job_plan.specs.Plans.{Plan, IsPlan}
+use Rattle.kira_app.specs.declared.job_files.Trees.{Trees}
+use Rattle.kira_app.specs.declared.status.Status.{Status}
+use Rattle.kira_app.specs.declared.status.Status.TheVariants as status
+use Rattle.kira_app.specs.declared.refusal.Refusal.{Refusal}
+use Rattle.kira_app.specs.Steps.{Answer, Step, Is, After, Then, plain, OfPlan}
+use Rattle.kira_app.specs.Told.{IfTold, ByStatus, SaysMissing, Answers, RefusesTold, Tells}
+use Rattle.kira_app.specs.Words.{are_served, job_file, overrides_of}
+use Rattle.kira_app.specs.Sources.{Sources, TreesOf, OutlineOf, ReadsSources}
+use Rattle.kira_app.specs.Plans.{status_of, refusal_of, PlanOfSources, served_words, PlanOf}
+use Rattle.kira_app.specs.TopClauses.{HavePlan, AreRefusedAs, AreRefused, IsDivisor, IsDivisorIn, IsPrime, IsReductionFault, Around, HasCause, HasEnded, IsSaidByContents, IsMissedIn, IsAlike, IsAnsweredBy}
+use Rattle.kira_app.specs.Laws.{AreAlike, NamesDivisorIn, JobsAgree, JobsNameDivisors, JobsHaveOneModulus}
+use Rattle.kira_app.proofs.Told.{weaker, then_is, next_answers, missing_said}
+use Rattle.kira_app.proofs.Agreement.{parted, trees_read, single_trees, single_outline}
+
+-- ---- a plan, taken apart
+
+point_split : {A B : Type 0} (first : point.Step A) (next : A → point.Step B) (b : B) (o : point.Answer A) → first o → point.After o next (Ok b) → (a : A) × first (Ok a) × next a (Ok b)
+point_split first next b (Ok a) h k = (a, h, k)
+point_split first next b (Err e) h k = absurd (true≢false (ap is_ok k))
+
+point_parted : {A B : Type 0} (first : point.Step A) (next : A → point.Step B) (b : B) → point.Then first next (Ok b) → (a : A) × first (Ok a) × next a (Ok b)
+point_parted first next b h = point_split first next b h.answer h.is h.after
+
+abbrev modulus_or : ℕ → point.Answer AtPoint → ℕ
+modulus_or d (Ok at) = at.modulus
+modulus_or d (Err e) = d
+
+at_modulus : (p : ℕ) (kinematics : Kinematics) (families : List Family) (settings : _) (at : AtPoint) → IsAtPoint p kinematics families settings (Ok at) → at.modulus ≡ p
+at_modulus p kinematics families settings at h =
+    let one = point_parted _ _ at h in
+    let two = point_parted _ _ at one.2 in
+    let three = point_parted _ _ at two.2 in
+    ap (modulus_or p) (sym three.2)
+
+-- the outline that a plan comes from
+record Planned (words : List Bytes) (held : Held) (plan : Plan) : Type 0 where
+  trees : Trees
+  read : TreesOf (job_file words) held (Ok trees)
+  outline : Outline
+  outlined : OutlineOf (overrides_of words) trees (Ok outline)
+  modulus : plan.modulus ≡ outline.point.prime
+
+planned : (words : List Bytes) (held : Held) (plan : Plan) → PlanOf words held (Ok plan) → Planned words held plan
+planned words held plan h =
+    let one = parted _ _ plan h in
+    let two = parted _ _ plan one.2 in
+    let three = parted _ _ plan two.2 in
+    let four = point_parted _ _ plan three.2 in
+    let five = point_parted _ _ plan four.2 in
+    record {
+      trees = two.0.trees;
+      read = trees_read (overrides_of words) (job_file words) held two.0 two.1;
+      outline = three.0;
+      outlined = three.1;
+      modulus = five.2.modulus ∙ at_modulus three.0.point.prime three.0.kinematics three.0.families three.0.point.settings five.0 five.1;
+    }
+
+-- ---- divisors of the modulus
+
+divisor_of_plan : (words : List Bytes) (held : Held) (plan : Plan) (divisor : ℕ) → PlanOf words held (Ok plan) → IsDivisor plan.modulus divisor → IsDivisorIn words divisor held
+divisor_of_plan words held plan divisor h d =
+    let from = planned words held plan h in
+    record { trees = from.trees; read = from.read; outline = from.outline; outlined = from.outlined; divides = subst (λ p. IsDivisor p divisor) from.modulus d }
+
+abbrev trees_or : Trees → Answer Trees → Trees
+trees_or d (Ok trees) = trees
+trees_or d (Err e) = d
+
+abbrev outline_or : Outline → Answer Outline → Outline
+outline_or d (Ok outline) = outline
+outline_or d (Err e) = d
+
+pub jobs_have_one_modulus : OutlineIsSingle → JobsHaveOneModulus
+jobs_have_one_modulus single words held plan divisor h d =
+    let from = planned words held plan h in
+    let trees : d.trees ≡ from.trees = ap (trees_or d.trees) (single_trees (job_file words) held (Ok d.trees) (Ok from.trees) d.read from.read) in
+    let outlined : OutlineOf (overrides_of words) from.trees (Ok d.outline) = subst (λ (t : Trees). OutlineOf (overrides_of words) t (Ok d.outline)) trees d.outlined in
+    let outline : d.outline ≡ from.outline = ap (outline_or d.outline) (single_outline single (overrides_of words) from.trees (Ok d.outline) (Ok from.outline) outlined from.outlined) in
+    subst (λ p. IsDivisor p divisor) (ap (λ (o : Outline). o.point.prime) outline ∙ sym from.modulus) d.divides
+
+no_divisor : (p divisor : ℕ) → IsPrime p → IsDivisor p divisor → ⊥
+no_divisor p divisor prime d = by (prime.only divisor d.divides)
+  where
+    by : (divisor ≡ 1) ⊎ (divisor ≡ p) → ⊥
+    by (inl e) = omega (arith, e, d.above_1)
+    by (inr e) = omega (arith, e, d.below)
+
+-- ---- the plan of the words and the files
+
+served_by : (b : Bool) → true ≡ b → ◌≡◌ {A = Answer (Unit {0})} (cond b (Ok tt) (Err (plain status.NotYet))) (Ok tt)
+served_by true e = refl
+served_by false e = absurd (true≢false e)
+
+pub plan_told : (held : Option Held) (before now : ℕ) (words : List Bytes) (given used : List Override) (name : Bytes) (sources : Sources) (r : Answer Plan) →
+    true ≡ are_served words → given ≡ overrides_of words → used ≡ overrides_of words → name ≡ job_file words → now ≡ before →
+    IfTold held (λ files. ReadsSources given name files (Ok sources)) → Answers (PlanOfSources used sources) r → Tells held before now (PlanOf words) r
+plan_told held before now words given used name sources r served is_given is_used is_name count read h =
+    let overrides = overrides_of words in
+    next_answers held before now (λ files. ReadsSources given name files (Ok sources)) (PlanOfSources overrides sources) (PlanOf words) r count
+    (λ files o found after. then_is (Is (served_words words)) (λ _. Then (ReadsSources overrides (job_file words) files) (PlanOfSources overrides)) tt o (served_by (are_served words) served)
+    (then_is (ReadsSources overrides (job_file words) files) (PlanOfSources overrides) sources o
+    (subst (λ (n : Bytes). ReadsSources overrides n files (Ok sources)) is_name (subst (λ (g : List Override). ReadsSources g name files (Ok sources)) is_given found)) after))
+    read (subst (λ (u : List Override). Answers (PlanOfSources u sources) r) is_used h)
+
+-- ---- a file that is said to be missing
+
+abbrev refusal_or : Refusal → Answer Plan → Refusal
+refusal_or d (Ok plan) = d
+refusal_or d (Err e) = e
+
+said_after : (overrides : List Override) (sources : Sources) (e : Refusal) (o : Answer Outline) → OutlineOf overrides sources.trees o →
+    After o (λ outline. OfPlan (refusal_of outline) (IsPlan outline sources.lists)) (Err e) → IsSaidByContents e.status
+said_after overrides sources e (Ok outline) is h = inr (outline, sources.lists, h.0, h.1, ap (λ (x : Refusal). x.status) h.2)
+said_after overrides sources e (Err x) is h =
+    let same : e ≡ x = ap (refusal_or e) h in
+    inl (overrides, sources.trees, (is.0, is.1, ap (λ (y : Refusal). plain y.status) (same ∙ is.2)))
+
+pub said_by_contents : (overrides : List Override) (sources : Sources) (e : Refusal) → PlanOfSources overrides sources (Err e) → IsSaidByContents e.status
+said_by_contents overrides sources e h = said_after overrides sources e h.answer h.is h.after
+
+pub missing_in : (held : Option Held) (before now : ℕ) (overrides : List Override) (sources : Sources) (r : Answer Plan) → Answers (PlanOfSources overrides sources) r →
+    IfErr r (λ (refusal : Refusal). IsMissedIn held before now refusal.status)
+missing_in held before now overrides sources (Ok plan) h = tt
+missing_in held before now overrides sources (Err e) h = λ untold missing. inr (said_by_contents overrides sources e (missing_said e.status _ _ missing h))
+
+-- ---- how a call ends
+
+abbrev is_fine : Status → Bool
+is_fine status.Ok = true
+is_fine _ = false
+
+abbrev IsCaused : Around → Status → Bytes → Type 0
+IsCaused a s name = (s ≢ status.Ok) × HasCause a s name
+
+unfine : (s : Status) → is_fine s ≡ false → s ≢ status.Ok
+unfine s other e = true≢false (sym (ap is_fine e) ∙ other)
+
+-- a refusal of the plan
+pub plan_caused : JobsNameDivisors → (a : Around) (s : Status) (name : Bytes) → ByStatus s (Rose a.faults a.faults_after) (IfTold a.held (AreRefusedAs a.words s name)) → IsCaused a s name
+plan_caused law a status.OutOfMemory name h = (unfine status.OutOfMemory refl, tt)
+plan_caused law a status.ReadFault name h = (unfine status.ReadFault refl, h)
+plan_caused law a status.Ok name h = absurd h
+plan_caused law a status.WriteFault name h = absurd h
+plan_caused law a (status.Input f) name h = (unfine (status.Input f) refl, h)
+plan_caused law a (status.Singular c) name h = (unfine (status.Singular c) refl, h)
+plan_caused law a (status.RulesClash m r) name h = (unfine (status.RulesClash m r) refl, h)
+plan_caused law a (status.TooMany what count) name h = (unfine (status.TooMany what count) refl, h)
+plan_caused law a status.NotYet name h = (unfine status.NotYet refl, h)
+plan_caused law a (status.Composite f) name h =
+    (unfine (status.Composite f) refl, weaker a.held _ _ (λ files is. law a.words files (record { status = status.Composite f; name = name }) f is refl) h)
+
+-- a refusal of the reduction
+pub reduction_caused : (a : Around) (plan : Plan) (s : Status) → IfTold a.held (λ files. PlanOf a.words files (Ok plan)) → IsReductionFault plan.modulus s → IsCaused a s []
+reduction_caused a plan (status.Composite f) told h = (unfine (status.Composite f) refl, weaker a.held _ _ (λ files is. divisor_of_plan a.words files plan f.divisor is h) told)
+reduction_caused a plan status.OutOfMemory told h = (unfine status.OutOfMemory refl, tt)
+reduction_caused a plan status.Ok told h = absurd h
+reduction_caused a plan status.NotYet told h = absurd h
+reduction_caused a plan (status.Input f) told h = absurd h
+reduction_caused a plan (status.Singular c) told h = absurd h
+reduction_caused a plan (status.RulesClash m r) told h = absurd h
+reduction_caused a plan (status.TooMany what count) told h = absurd h
+reduction_caused a plan status.ReadFault told h = absurd h
+reduction_caused a plan status.WriteFault told h = absurd h
+
+pub plainly_caused : (a : Around) (s : Status) (r : Refusal) → r ≡ plain s → IsCaused a s [] → IsCaused a r.status r.name
+plainly_caused a s r is h = subst (λ (x : Refusal). IsCaused a x.status x.name) (sym is) h
+
+-- what `?` answers
+pub err_ended : (a : Around) (r : Result (Unit {0}) Refusal) (e : Refusal) → IsErrAnd r (λ x. x ≡ e) → IsCaused a e.status e.name → HasEnded a r
+err_ended a (Ok u) e h k = absurd h
+err_ended a (Err x) e h k = subst (λ (y : Refusal). IsCaused a y.status y.name) (sym h) k
+
+-- ---- where the files are told
+
+abbrev told_at : (held : Option Held) (files : Held) (P : Held → Type 0) → held ≡ Some files → IfTold held P → P files
+told_at held files P e h = subst (λ (o : Option Held). IfTold o P) e h
+
+no_plan : (plan : Plan) (e : Refusal) → ◌≡◌ {A = Answer Plan} (Err e) (Ok plan) → ⊥
+no_plan plan e h = true≢false (sym (ap is_ok h))
+
+module _ (agree : JobsAgree) (one : JobsHaveOneModulus) (a : Around) (files : Held) (told : a.held ≡ Some files) where
+  abbrev Divisible : Type 0
+  Divisible = (divisor : ℕ) × IsDivisorIn a.words divisor files
+
+  named_in : (r : Answer Plan) → NamesDivisorIn a.words files r → Divisible
+  named_in (Ok plan) d = absurd d
+  named_in (Err e) d = (d.0.divisor, d.2)
+
+  -- a refusal and a plan
+  plan_or_refusal : (plan : Plan) (e : Refusal) → AreAlike (Ok plan) (Err e) ⊎ (NamesDivisorIn a.words files (Ok plan) ⊎ NamesDivisorIn a.words files (Err e)) → Divisible
+  plan_or_refusal plan e (inl h) = absurd (no_plan plan e h)
+  plan_or_refusal plan e (inr (inl d)) = absurd d
+  plan_or_refusal plan e (inr (inr d)) = named_in (Err e) d
+
+  refused_and_planned : (e : Refusal) → PlanOf a.words files (Err e) → (P : Plan → Type 0) → IfTold a.held (HavePlan a.words P) → Divisible
+  refused_and_planned e refused P h =
+      let found = told_at a.held files (HavePlan a.words P) told h in
+      plan_or_refusal found.plan e (agree a.words files (Ok found.plan) (Err e) found.is refused)
+
+  two_refusals : (e x : Refusal) → AreAlike (Err e) (Err x) ⊎ (NamesDivisorIn a.words files (Err e) ⊎ NamesDivisorIn a.words files (Err x)) → IsAnsweredBy a.words files e.status x.status
+  two_refusals e x (inl h) = inl (subst (λ (y : Refusal). IsAlike e.status y.status) (sym (ap (refusal_or x) h.1)) h.2)
+  two_refusals e x (inr (inl d)) = inr (inr (named_in (Err e) d))
+  two_refusals e x (inr (inr d)) = inr (inr (named_in (Err x) d))
+
+  module _ (e : Refusal) (refused : PlanOf a.words files (Err e)) (quiet : ¬ (Rose a.faults a.faults_after)) where
+    also_refused : (s : Status) (name : Bytes) → IfTold a.held (AreRefusedAs a.words s name) → IsAnsweredBy a.words files e.status s
+    also_refused s name h =
+        let x : Refusal = record { status = s; name = name } in
+        two_refusals e x (agree a.words files (Err e) (Err x) refused (told_at a.held files (AreRefusedAs a.words s name) told h))
+
+    -- the first refusal is the answer
+    pub refusal_answered : (s : Status) (name : Bytes) → HasCause a s name → IsAnsweredBy a.words files e.status s
+    refusal_answered status.Ok name h = inr (inr (refused_and_planned e refused _ h.0))
+    refusal_answered status.WriteFault name h = inr (inr (refused_and_planned e refused _ h.0))
+    refusal_answered (status.Composite f) name h = inr (inr (f.divisor, told_at a.held files (IsDivisorIn a.words f.divisor) told h))
+    refusal_answered status.ReadFault name h = absurd (quiet h)
+    refusal_answered status.OutOfMemory name h = inr (inl refl)
+    refusal_answered (status.Input f) name h = also_refused (status.Input f) name h
+    refusal_answered (status.Singular c) name h = also_refused (status.Singular c) name h
+    refusal_answered (status.RulesClash m r) name h = also_refused (status.RulesClash m r) name h
+    refusal_answered (status.TooMany what count) name h = also_refused (status.TooMany what count) name h
+    refusal_answered status.NotYet name h = also_refused status.NotYet name h
+
+  module _ (plan : Plan) (is : PlanOf a.words files (Ok plan)) (prime : IsPrime plan.modulus) (quiet : ¬ (Rose a.faults a.faults_after)) (calm : ¬ (Rose a.out_faults a.out_faults_after)) where
+    none_divides : Divisible → ⊥
+    none_divides d = no_divisor plan.modulus d.0 prime (one a.words files plan d.0 is d.1)
+
+    none_refused : (s : Status) (name : Bytes) → IfTold a.held (AreRefusedAs a.words s name) → ⊥
+    none_refused s name h =
+        let x : Refusal = record { status = s; name = name } in
+        none_divides (plan_or_refusal plan x (agree a.words files (Ok plan) (Err x) is (told_at a.held files (AreRefusedAs a.words s name) told h)))
+
+    -- a job with a plan has a table
+    pub complete : (s : Status) (name : Bytes) → HasCause a s name → (s ≡ status.Ok) ⊎ (s ≡ status.OutOfMemory)
+    complete status.Ok name h = inl refl
+    complete status.WriteFault name h = absurd (calm h.1)
+    complete (status.Composite f) name h = absurd (none_divides (f.divisor, told_at a.held files (IsDivisorIn a.words f.divisor) told h))
+    complete status.ReadFault name h = absurd (quiet h)
+    complete status.OutOfMemory name h = inr refl
+    complete (status.Input f) name h = absurd (none_refused (status.Input f) name h)
+    complete (status.Singular c) name h = absurd (none_refused (status.Singular c) name h)
+    complete (status.RulesClash m r) name h = absurd (none_refused (status.RulesClash m r) name h)
+    complete (status.TooMany what count) name h = absurd (none_refused (status.TooMany what count) name h)
+    complete status.NotYet name h = absurd (none_refused status.NotYet name h)
