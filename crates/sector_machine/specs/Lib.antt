@@ -1,0 +1,5 @@
+pub mod State
+pub mod Machine
+pub mod Tasks
+pub mod Invariant
+pub mod Laws
