@@ -1,0 +1,10 @@
+pub mod Lists
+pub mod Units
+pub mod Greatest
+pub mod Apart
+pub mod Rows
+pub mod Runs
+pub mod Opening
+pub mod ForwardEvents
+pub mod BackEvents
+pub mod Events
