@@ -1,26 +1,26 @@
 -- A back event keeps the invariant.
-use Rattle.std.proofs.Common.{◌≡◌, ◌≢◌, ℕ, None, Some, List, [], ◌++◌, All, Contains, sym, ap, subst, ◌∙◌, ◌⊎◌, inl, inr}
+use Rattle.std.proofs.Common.{◌≡◌, ◌≢◌, ℕ, List, ◌++◌, All, Contains, sym, ap, subst, ◌∙◌, ◌⊎◌, inl, inr}
 use Rattle.std.specs.FinMap as map
 use Rattle.std.specs.declared.cmp.Ordering.TheVariants.{Less}
-use Rattle.std.proofs.lemmas.List.Elements.{All-append, All-contains, Contains-append_left, Contains-append_right, Contains-append_cases}
+use Rattle.std.proofs.lemmas.List.Elements.{All-append, All-contains, Contains-append_left, Contains-append_cases}
 use Rattle.integral_index.specs.declared.Order.{Order}
 use Rattle.integral_index.specs.declared.Unit.{Unit}
 use Rattle.integral_index.specs.Integral.{Integral}
 use Rattle.integral_index.specs.Order.{unit_of, unit_compare}
-use Rattle.sparse_row.specs.Row.{Row, coefficient, Shows, IsRow, IsPivot}
+use Rattle.sparse_row.specs.Row.{Row, coefficient, Shows, IsPivot}
 use Rattle.sparse_row.specs.Span.{InSpan, SameSpan}
 use Rattle.sparse_row.proofs.RowSpans.{InSpan-trans, All_in_span-trans}
 use Rattle.sector_forward.specs.Elimination.{AreApart, IsShownBySome}
 use Rattle.sector_forward.proofs.Keys.{decided}
 use Rattle.sector_forward.proofs.Parted.{shown_by_span}
 use Rattle.back_substitute.specs.Substitution.{AreRules, HavePivotsOf, ShowsNoPivotOf}
-use Rattle.sector_machine.specs.State.{State, RowsByUnit, Has, HasNone, rows_at, IsAmong, rows_of}
-use Rattle.sector_machine.specs.Machine.{back_rows, MayBack, IsAfterBack, IsBack}
+use Rattle.sector_machine.specs.State.{State, RowsByUnit, Has, rows_at, rows_of}
+use Rattle.sector_machine.specs.Machine.{back_rows, MayBack, IsBack}
 use Rattle.sector_machine.specs.Invariant.{HoldsOfUnits, HoldsOfWaiting, HoldsOfBack, HoldsOfSpans, Holds}
 use Rattle.sector_machine.proofs.Lists.{All-from_members}
 use Rattle.sector_machine.proofs.Units.{unit_cases, less_differs, rows_inserted, rows_others, Has-inserted, Has-others, Has-more, Has-from_member, unit_of_row, row_of_unit}
-use Rattle.sector_machine.proofs.Apart.{AreTwoApart, AreApart-joined, only_itself}
-use Rattle.sector_machine.proofs.Rows.{row_of_rules, unit_of_pivot, member_in_span, forward_row, forward_listed, back_listed, back_row, back_shows_none}
+use Rattle.sector_machine.proofs.Apart.{AreApart-joined, only_itself}
+use Rattle.sector_machine.proofs.Rows.{row_of_rules, unit_of_pivot, member_in_span, forward_row, forward_listed, back_listed, back_row}
 
 module _ (p : ℕ) (order : Order) (equations : List Row) (unit : Unit) (rows : List Row) (before : State) (holds : Holds p order equations before) (may : MayBack unit before) (rules : AreRules p order unit rows) (pivots : HavePivotsOf order (rows_at before.forward unit) rows) (clear : All (ShowsNoPivotOf order (back_rows before)) rows) (span : SameSpan p (rows_at before.forward unit ++ back_rows before) (rows ++ back_rows before)) where
   abbrev new_back : RowsByUnit

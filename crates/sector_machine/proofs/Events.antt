@@ -1,5 +1,5 @@
 -- Each event keeps the invariant, so each state that a run reaches has it.
-use Rattle.std.proofs.Common.{◌≡◌, ℕ, List, [], ◌∷◌, subst}
+use Rattle.std.proofs.Common.{ℕ, List, [], ◌∷◌, subst}
 use Rattle.integral_index.specs.declared.Order.{Order}
 use Rattle.sparse_row.specs.Row.{Row}
 use Rattle.sector_machine.specs.State.{State}

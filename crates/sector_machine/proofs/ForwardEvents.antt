@@ -1,7 +1,7 @@
 -- A forward event keeps the invariant.
-use Rattle.std.proofs.Common.{◌≡◌, ◌≢◌, ℕ, None, Some, List, [], ◌++◌, All, Contains, filter, sym, ap, subst, ◌∙◌, ◌⊎◌, inl, inr, arith}
+use Rattle.std.proofs.Common.{◌≡◌, ◌≢◌, ℕ, List, [], ◌++◌, All, Contains, filter, sym, ap, subst, ◌∙◌, ◌⊎◌, inl, inr}
 use Rattle.std.specs.FinMap as map
-use Rattle.std.proofs.lemmas.List.Elements.{All-append, All-contains, All-nil, Contains-append_left, Contains-append_right, Contains-append_cases}
+use Rattle.std.proofs.lemmas.List.Elements.{All-append, All-contains, Contains-append_left, Contains-append_right, Contains-append_cases}
 use Rattle.integral_index.specs.declared.Order.{Order}
 use Rattle.integral_index.specs.declared.Unit.{Unit}
 use Rattle.integral_index.specs.Integral.{Integral}
@@ -12,13 +12,13 @@ use Rattle.sparse_row.proofs.RowSpans.{InSpan-trans, All_in_span-trans, SameSpan
 use Rattle.sector_forward.specs.Elimination.{IsTaken, IsRuleOf, IsOutside, IsElimination, IsShownBySome}
 use Rattle.sector_forward.proofs.Eliminations.{nothing_new}
 use Rattle.back_substitute.specs.Substitution.{AreRules, HavePivotsOf}
-use Rattle.sector_machine.specs.State.{State, RowsByUnit, Has, HasNone, rows_at, IsAmong, rows_of, unless_empty, has_greatest_in}
-use Rattle.sector_machine.specs.Machine.{back_rows, HasGreatestIn, MayForward, IsAfterForward, IsForward}
-use Rattle.sector_machine.specs.Invariant.{ShowOnlyUnits, HoldsOfUnits, HoldsOfWaiting, HoldsOfBack, HoldsOfSpans, Holds}
+use Rattle.sector_machine.specs.State.{State, RowsByUnit, Has, HasNone, rows_at, rows_of, unless_empty, has_greatest_in}
+use Rattle.sector_machine.specs.Machine.{back_rows, HasGreatestIn, MayForward, IsForward}
+use Rattle.sector_machine.specs.Invariant.{HoldsOfUnits, HoldsOfWaiting, HoldsOfBack, HoldsOfSpans, Holds}
 use Rattle.sector_machine.proofs.Lists.{Contains-none, All-from_members, kept_member, member_kept}
-use Rattle.sector_machine.proofs.Units.{unit_cases, get_others, rows_inserted, rows_others, Has-inserted, Has-others, Has-more, no_rows, rows_by_get, unless_empty-some, unit_of_row, row_of_unit}
+use Rattle.sector_machine.proofs.Units.{unit_cases, get_others, rows_inserted, rows_others, Has-others, Has-more, no_rows, rows_by_get, unless_empty-some, unit_of_row, row_of_unit}
 use Rattle.sector_machine.proofs.Greatest.{HasGreatestIn-from_test, test-from_HasGreatestIn, greatest_is_there}
-use Rattle.sector_machine.proofs.Rows.{row_of_rules, one_unit, member_in_span, waiting_taken, forward_row, waiting_shown_listed}
+use Rattle.sector_machine.proofs.Rows.{one_unit, member_in_span, waiting_taken, forward_row, waiting_shown_listed}
 
 -- the waiting rows are those of other units, with the rest behind them
 module _ (p : ℕ) (order : Order) (equations : List Row) (unit : Unit) (rows rest : List Row) (before : State) (holds : Holds p order equations before) (may : MayForward order unit before) (e : IsElimination p order unit (rows_at before.waiting unit) rows rest) (waiting : RowsByUnit) (taken : HasNone waiting unit) (others : (other : Unit) → other ≢ unit → map.get waiting other ≡ unless_empty (rows_at before.waiting other ++ filter (has_greatest_in order other) rest)) where
@@ -34,18 +34,19 @@ module _ (p : ℕ) (order : Order) (equations : List Row) (unit : Unit) (rows re
   rest_row row member = All-contains (IsOutside p order unit) rest row e.are_outside member
 
   -- a row that waits in a unit waited there before, or is of the rest
-  waits_cases : (other : Unit) (row : Row) → Contains (rows_at waiting other) row → (other ≢ unit) × (Contains (rows_at before.waiting other) row ⊎ (Contains rest row × HasGreatestIn order other row))
+  pub waits_cases : (other : Unit) (row : Row) → Contains (rows_at waiting other) row → (other ≢ unit) × (Contains (rows_at before.waiting other) row ⊎ (Contains rest row × HasGreatestIn order other row))
   waits_cases other row member =
       elim (unit_cases other unit) [
         | inl same ↦ absurd (Contains-none row (subst (λ rs. Contains rs row) (ap (rows_at waiting) same ∙ none_of_unit) member))
-        | inr differ ↦
-            (differ,
-            elim (Contains-append_cases (rows_at before.waiting other) (filter (has_greatest_in order other) rest) row (subst (λ rs. Contains rs row) (group_is other differ) member)) [
-              | inl old ↦ inl old
-              | inr new ↦
-                  let kept = kept_member (has_greatest_in order other) rest row new in
-                  inr (kept.0, HasGreatestIn-from_test p order other row (rest_row row kept.0).is_row kept.1)
-            ])
+        | inr differ ↦ (
+          differ,
+          elim (Contains-append_cases (rows_at before.waiting other) (filter (has_greatest_in order other) rest) row (subst (λ rs. Contains rs row) (group_is other differ) member)) [
+            | inl old ↦ inl old
+            | inr new ↦
+                let kept = kept_member (has_greatest_in order other) rest row new in
+                inr (kept.0, HasGreatestIn-from_test p order other row (rest_row row kept.0).is_row kept.1)
+          ],
+        )
       ]
 
   -- what rows and rest show, a row that was taken shows
@@ -196,9 +197,10 @@ module _ (p : ℕ) (order : Order) (equations : List Row) (unit : Unit) (rows re
       let other = found.0 in
       elim (unit_cases other unit) [
         | inl same ↦ absurd (Contains-none row (subst (λ rs. Contains rs row) (ap (rows_at before.forward) same ∙ no_rows before.forward unit may.new) found.2))
-        | inr differ ↦
-            (row_of_unit before.units (map.insert before.forward unit rows) other row found.1 (subst (λ rs. Contains rs row) (sym (rows_others before.forward unit rows other differ)) found.2),
-            forward_row p order equations before holds other row found.2)
+        | inr differ ↦ (
+          row_of_unit before.units (map.insert before.forward unit rows) other row found.1 (subst (λ rs. Contains rs row) (sym (rows_others before.forward unit rows other differ)) found.2),
+          forward_row p order equations before holds other row found.2,
+        )
       ]
 
   in_new : (row : Row) → IsRow p order row → Contains new_waiting row ⊎ Contains new_forward row → InSpan p (new_waiting ++ new_forward) row

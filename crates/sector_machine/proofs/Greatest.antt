@@ -1,11 +1,11 @@
 -- The greatest integral of a row, and the tests by which rows are sorted.
-use Rattle.std.proofs.Common.{◌≡◌, ◌≢◌, ℕ, Bool, true, false, not, ◌&&◌, eqb, Option, None, Some, is_some, unwrap_or, List, [], ◌∷◌, Contains, refl, sym, ap, subst, ◌∙◌, ◌⊎◌, inl, inr, arith}
+use Rattle.std.proofs.Common.{◌≡◌, ◌≢◌, ℕ, true, not, ◌&&◌, eqb, Option, None, Some, is_some, unwrap_or, List, [], ◌∷◌, Contains, refl, sym, ap, subst, ◌∙◌, ◌⊎◌, inl, inr, arith}
 use Rattle.std.specs.FinMap as map
-use Rattle.std.specs.List.{list_any, list_all}
+use Rattle.std.specs.List.{list_any}
 use Rattle.std.specs.Ordering.{is_eq, is_gt, eq_by_cmp, ordering_reverse}
 use Rattle.std.specs.declared.cmp.Ordering.{Ordering}
 use Rattle.std.specs.declared.cmp.Ordering.TheVariants.{Less, Equal, Greater}
-use Rattle.std.proofs.lemmas.Bool.{false≢true, and_parts, and_from, not-true, not_from_false, eqb-true, ne_eqb, eqb-false}
+use Rattle.std.proofs.lemmas.Bool.{false≢true, and_parts, and_from, not-true, not_from_false, ne_eqb, eqb-false}
 use Rattle.std.proofs.lemmas.Cmp.{tied_itself, eq_by_cmp_equiv}
 use Rattle.std.proofs.lemmas.Map.Views.{list_any-from_Contains, Contains-from_any}
 use Rattle.integral_index.specs.declared.Order.{Order}
@@ -13,7 +13,7 @@ use Rattle.integral_index.specs.declared.Unit.{Unit}
 use Rattle.integral_index.specs.Integral.{Integral}
 use Rattle.integral_index.specs.Order.{by_fields, compare, unit_of, unit_compare}
 use Rattle.integral_index.proofs.Orders.{by_fields-total, by_fields-IsAntisymmetric, compare-total, compare-IsAntisymmetric, compare-of_units}
-use Rattle.sparse_row.specs.Row.{Row, coefficient, Shows, IsRow, IsEmpty, IsGreatest, IsPivot}
+use Rattle.sparse_row.specs.Row.{Row, coefficient, Shows, IsRow, IsEmpty, IsGreatest}
 use Rattle.sector_forward.specs.Elimination.{IsShownBySome}
 use Rattle.sector_forward.proofs.Keys.{decided}
 use Rattle.sector_forward.proofs.Members.{Contains-cons_cases, Contains-here, Contains-there}
@@ -99,34 +99,48 @@ test-from_shown p order rows rule x is top (row, member, shows) =
 -- ---- a row that shows something has a greatest integral
 
 greatest_of_list : (order : Order) (x : Integral) (xs : List Integral) → (m : Integral) × Contains (x ∷ xs) m × ((y : Integral) → Contains (x ∷ xs) y → compare order y m ≢ Greater)
-greatest_of_list order x [] =
-    (x, Contains-here x [], λ y member above.
-    elim (Contains-cons_cases x [] y member) [
-      | inl same ↦ let tied = tied_itself (compare-total order) x in let turned : compare order x x ≡ Greater = ap (λ z. compare order z x) same ∙ above in absurd (cc)
-      | inr later ↦ absurd (omega (arith, later.1))
-    ])
+greatest_of_list order x [] = (
+  x,
+  Contains-here x [],
+  λ y member above.
+      elim (Contains-cons_cases x [] y member) [
+        | inl same ↦ let tied = tied_itself (compare-total order) x in let turned : compare order x x ≡ Greater = ap (λ z. compare order z x) same ∙ above in absurd (cc)
+        | inr later ↦ absurd (omega (arith, later.1))
+      ],
+)
 greatest_of_list order x (z ∷ zs) =
     let r = greatest_of_list order z zs in
     let m = r.0 in
     elim (compare order x m) as (λ o. compare order x m ≡ o → (n : Integral) × Contains (x ∷ z ∷ zs) n × ((y : Integral) → Contains (x ∷ z ∷ zs) y → compare order y n ≢ Greater)) [
       | Greater ↦ λ e.
           let m_below : compare order m x ≢ Greater = λ g. let turned = (compare-total order).antisymm m x ∙ ap ordering_reverse e in absurd (cc) in
-          let itself : compare order x x ≢ Greater = λ g. let tied = tied_itself (compare-total order) x in absurd (cc) in
-          (x, Contains-here x (z ∷ zs), λ y member.
-          elim (Contains-cons_cases x (z ∷ zs) y member) [
-            | inl same ↦ subst (λ w. compare order w x ≢ Greater) same itself
-            | inr later ↦ not_above order y m x (r.2 y later) m_below
-          ])
-      | Less ↦ λ e. (m, Contains-there x (z ∷ zs) m r.1, λ y member.
-          elim (Contains-cons_cases x (z ∷ zs) y member) [
-            | inl same ↦ subst (λ w. compare order w m ≢ Greater) same (λ g. absurd (cc))
-            | inr later ↦ r.2 y later
-          ])
-      | Equal ↦ λ e. (m, Contains-there x (z ∷ zs) m r.1, λ y member.
-          elim (Contains-cons_cases x (z ∷ zs) y member) [
-            | inl same ↦ subst (λ w. compare order w m ≢ Greater) same (λ g. absurd (cc))
-            | inr later ↦ r.2 y later
-          ])
+          let itself : compare order x x ≢ Greater = λ g. let tied = tied_itself (compare-total order) x in absurd (cc) in (
+            x,
+            Contains-here x (z ∷ zs),
+            λ y member.
+                elim (Contains-cons_cases x (z ∷ zs) y member) [
+                  | inl same ↦ subst (λ w. compare order w x ≢ Greater) same itself
+                  | inr later ↦ not_above order y m x (r.2 y later) m_below
+                ],
+          )
+      | Less ↦ λ e. (
+        m,
+        Contains-there x (z ∷ zs) m r.1,
+        λ y member.
+            elim (Contains-cons_cases x (z ∷ zs) y member) [
+              | inl same ↦ subst (λ w. compare order w m ≢ Greater) same (λ g. absurd (cc))
+              | inr later ↦ r.2 y later
+            ],
+      )
+      | Equal ↦ λ e. (
+        m,
+        Contains-there x (z ∷ zs) m r.1,
+        λ y member.
+            elim (Contains-cons_cases x (z ∷ zs) y member) [
+              | inl same ↦ subst (λ w. compare order w m ≢ Greater) same (λ g. absurd (cc))
+              | inr later ↦ r.2 y later
+            ],
+      )
     ] refl
 
 pub empty_or_greatest : (p : ℕ) (order : Order) (row : Row) → IsRow p order row → IsEmpty row ⊎ ((x : Integral) × IsGreatest order row x)
@@ -139,10 +153,13 @@ empty_or_greatest p order row is =
           ])
       | k ∷ ks ↦ λ e.
           let m = greatest_of_list order k ks in
-          inr (m.0, record {
-            shown = shown_of_key p order row m.0 is (subst (λ ks. Contains ks m.0) (sym e) m.1);
-            greatest = λ y shows. m.2 y (subst (λ ks. Contains ks y) e (key_of_shown row y shows));
-          })
+          inr (
+            m.0,
+            record {
+              shown = shown_of_key p order row m.0 is (subst (λ ks. Contains ks m.0) (sym e) m.1);
+              greatest = λ y shows. m.2 y (subst (λ ks. Contains ks y) e (key_of_shown row y shows));
+            },
+          )
     ] refl
 
 pub greatest_is_there : (p : ℕ) (order : Order) (row : Row) → IsRow p order row → ¬ (IsEmpty row) → (x : Integral) × IsGreatest order row x

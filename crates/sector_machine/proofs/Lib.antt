@@ -8,3 +8,9 @@ pub mod Opening
 pub mod ForwardEvents
 pub mod BackEvents
 pub mod Events
+pub mod Done
+pub mod Ready
+pub mod Serving
+pub mod States
+pub mod Tasks
+pub mod Following

@@ -1,19 +1,18 @@
 -- The invariant holds of the opening.
-use Rattle.std.proofs.Common.{◌≡◌, ◌≢◌, ℕ, None, Some, List, [], ◌++◌, All, Contains, filter, sym, ap, subst, ◌∙◌, inl, inr, arith}
+use Rattle.std.proofs.Common.{◌≡◌, ℕ, List, [], ◌++◌, Contains, filter, sym, ap, subst, ◌∙◌, inl, inr, arith}
 use Rattle.std.specs.FinMap as map
 use Rattle.std.specs.declared.cmp.Ordering.TheVariants.{Less}
 use Rattle.std.proofs.lemmas.List.Elements.{All-contains, All-nil, Contains-append_left, Contains-append_cases}
 use Rattle.integral_index.specs.declared.Order.{Order}
 use Rattle.integral_index.specs.declared.Unit.{Unit}
-use Rattle.integral_index.specs.Integral.{Integral}
 use Rattle.integral_index.specs.Order.{unit_of, unit_compare}
-use Rattle.sparse_row.specs.Row.{Row, Shows, IsRow}
-use Rattle.sparse_row.specs.Span.{InSpan, SameSpan}
+use Rattle.sparse_row.specs.Row.{Row, IsRow}
+use Rattle.sparse_row.specs.Span.{InSpan}
 use Rattle.sparse_row.proofs.RowSpans.{InSpan-empty}
-use Rattle.sector_forward.specs.Elimination.{IsTaken, IsRuleOf, AreApart}
+use Rattle.sector_forward.specs.Elimination.{IsTaken, IsRuleOf}
 use Rattle.back_substitute.specs.Substitution.{AreRules}
-use Rattle.sector_machine.specs.State.{State, RowsByUnit, Has, HasNone, rows_at, IsAmong, rows_of, unless_empty, has_greatest_in}
-use Rattle.sector_machine.specs.Machine.{Opens, back_rows, Ascends}
+use Rattle.sector_machine.specs.State.{State, RowsByUnit, HasNone, rows_at, rows_of, has_greatest_in}
+use Rattle.sector_machine.specs.Machine.{Opens, back_rows}
 use Rattle.sector_machine.specs.Invariant.{HoldsOfUnits, HoldsOfWaiting, HoldsOfBack, HoldsOfSpans, Holds}
 use Rattle.sector_machine.proofs.Lists.{Contains-none, All-from_members, kept_member, member_kept}
 use Rattle.sector_machine.proofs.Units.{rows_of_nothing, rows_by_get, unless_empty-some, unit_of_row, row_of_unit}

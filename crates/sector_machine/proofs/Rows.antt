@@ -1,5 +1,5 @@
 -- The rows of a state of which the invariant holds.
-use Rattle.std.proofs.Common.{◌≡◌, ◌≢◌, ℕ, List, [], ◌++◌, get_or, All, Contains, sym, ap, subst, ◌∙◌, ◌⊎◌, inl, inr}
+use Rattle.std.proofs.Common.{◌≡◌, ◌≢◌, ℕ, List, All, Contains, sym, ap, subst, ◌∙◌}
 use Rattle.std.proofs.lemmas.List.Elements.{All-contains}
 use Rattle.integral_index.specs.declared.Order.{Order}
 use Rattle.integral_index.specs.declared.Unit.{Unit}
@@ -11,11 +11,11 @@ use Rattle.sparse_row.proofs.RowSpans.{InSpan-member}
 use Rattle.sparse_row.proofs.RowValues.{greatest_same}
 use Rattle.sector_forward.specs.Elimination.{IsTaken, IsRuleOf, IsShownBySome}
 use Rattle.back_substitute.specs.Substitution.{AreRules}
-use Rattle.sector_machine.specs.State.{State, RowsByUnit, Has, HasNone, rows_at, IsAmong, rows_of}
+use Rattle.sector_machine.specs.State.{State, Has, HasNone, rows_at, rows_of}
 use Rattle.sector_machine.specs.Machine.{back_rows, HasGreatestIn}
 use Rattle.sector_machine.specs.Invariant.{Holds}
-use Rattle.sector_machine.proofs.Lists.{Contains-none, All-from_members}
-use Rattle.sector_machine.proofs.Units.{there_or_not, Has-from_member, unit_of_row, row_of_unit}
+use Rattle.sector_machine.proofs.Lists.{All-from_members}
+use Rattle.sector_machine.proofs.Units.{Has-from_member, unit_of_row, row_of_unit}
 
 -- ---- rows of one unit
 
@@ -66,6 +66,12 @@ module _ (p : ℕ) (order : Order) (equations : List Row) (state : State) (holds
   back_row row member =
       let found = unit_of_row state.units state.back row member in
       row_of_rules p order found.0 (rows_at state.back found.0) row (holds.back.rules found.0) found.2
+
+  pub back_pivot : (row : Row) → Contains (back_rows state) row → (x : Integral) × IsPivot order row x
+  back_pivot row member =
+      let found = unit_of_row state.units state.back row member in
+      let own = (All-contains (IsRuleOf p order found.0) (rows_at state.back found.0) row (holds.back.rules found.0).each found.2).pivot in
+      (own.0, own.1)
 
   pub back_are_rows : All (IsRow p order) (back_rows state)
   back_are_rows = All-from_members (IsRow p order) (back_rows state) back_row

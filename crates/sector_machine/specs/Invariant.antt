@@ -1,5 +1,5 @@
 -- What holds of each state that a run reaches from the opening of given equations.
-use Rattle.std.specs.Prelude.{◌≡◌, ◌≢◌, ◌++◌, ℕ, List, [], All, Contains, Some}
+use Rattle.std.specs.Prelude.{◌≢◌, ◌++◌, ℕ, List, [], All, Contains, Some}
 use Rattle.std.specs.FinMap as map
 use Rattle.integral_index.specs.declared.Order.{Order}
 use Rattle.integral_index.specs.declared.Unit.{Unit}

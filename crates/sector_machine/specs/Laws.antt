@@ -10,7 +10,7 @@ use Rattle.sector_forward.specs.Elimination.{IsTaken, IsElimination}
 use Rattle.back_substitute.specs.Substitution.{AreRules, AreBelow, IsSubstitution}
 use Rattle.back_substitute.specs.Laws.{HasAllShown}
 use Rattle.sector_machine.specs.State.{State, Has, HasNone, rows_at, IsAmong, has_greatest_in}
-use Rattle.sector_machine.specs.Machine.{Opens, back_rows, HasGreatestIn, MayForward, MayBack, IsAfterForward, IsAfterBack, IsForward, IsBack, Event, unit_of_event, Leads, IsRun, IsDone}
+use Rattle.sector_machine.specs.Machine.{Opens, back_rows, HasGreatestIn, MayForward, MayBack, IsAfterForward, IsAfterBack, Event, unit_of_event, Leads, IsRun, IsDone}
 use Rattle.sector_machine.specs.Tasks.{below_of, KeepsTask, IsTableOf}
 use Rattle.sector_machine.specs.Invariant.{Holds}
 

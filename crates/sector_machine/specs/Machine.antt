@@ -1,7 +1,7 @@
 -- The machine of units: from which states which events lead to which.
 -- Source: Laporta, hep-ph/0102033, and Kira, arXiv:1705.05610, which eliminate sector by sector and insert the relations of
 -- lesser sectors into those of a greater one; that units wait for each other only as far as their rows ask is the project's own.
-use Rattle.std.specs.Prelude.{◌≡◌, ◌≢◌, List, [], ◌∷◌, ◌++◌, ℕ, All, AllPairs, Contains, None, filter}
+use Rattle.std.specs.Prelude.{◌≡◌, ◌≢◌, List, [], ◌∷◌, ◌++◌, ℕ, All, AllPairs, Contains, filter}
 use Rattle.std.specs.FinMap as map
 use Rattle.std.specs.declared.cmp.Ordering.TheVariants.{Less}
 use Rattle.integral_index.specs.declared.Order.{Order}
@@ -12,7 +12,7 @@ use Rattle.sparse_row.specs.Row.{Row, Shows, IsRow, IsGreatest}
 use Rattle.sparse_row.specs.Span.{SameSpan}
 use Rattle.sector_forward.specs.Elimination.{IsElimination, IsShownBySome}
 use Rattle.back_substitute.specs.Substitution.{AreRules, HavePivotsOf, ShowsNoPivotOf}
-use Rattle.sector_machine.specs.State.{State, RowsByUnit, Has, HasNone, rows_at, IsAmong, rows_of, unless_empty, has_greatest_in}
+use Rattle.sector_machine.specs.State.{State, Has, HasNone, rows_at, IsAmong, rows_of, unless_empty, has_greatest_in}
 
 -- the units ascend, each once
 abbrev pub Ascends : List Unit → Type 0

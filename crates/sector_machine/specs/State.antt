@@ -1,6 +1,6 @@
 -- A state of the machine of units: which rows wait, and which units have their forward rows and their back rows.
 -- Source: Kira, arXiv:1705.05610, which eliminates sector by sector and then substitutes back; the states are the project's own.
-use Rattle.std.specs.Prelude.{◌≡◌, ◌≢◌, ◌==◌, Bool, not, ◌&&◌, Option, None, Some, unwrap_or, List, [], ◌∷◌, Contains, flat_map, refl}
+use Rattle.std.specs.Prelude.{◌≡◌, ◌≢◌, Bool, not, ◌&&◌, Option, None, Some, unwrap_or, List, [], ◌∷◌, Contains, flat_map, refl}
 use Rattle.std.specs.Coded.{Coded, code_by, coded×, coded_list}
 use Rattle.std.specs.FinMap as map
 use Rattle.std.specs.List.{list_any, list_all}
