@@ -1,8 +1,8 @@
 -- Rows no pivot of which is shown by another of them.
 use Rattle.std.proofs.Common.{◌≡◌, Bool, List, get_or, AllPairs, Contains, filter, flat_map, sym, ap, subst, ◌∙◌, inl, inr, arith}
 use Rattle.std.proofs.lemmas.Bool.{cases_lt, cases_eq}
-use Rattle.integral_index.specs.declared.Order.{Order}
 use Rattle.integral_index.specs.Integral.{Integral}
+use Rattle.integral_index.specs.declared.Order.{Order}
 use Rattle.sparse_row.specs.Row.{Row, coefficient, Shows, IsPivot}
 use Rattle.sector_forward.specs.Elimination.{AreApart}
 use Rattle.sector_forward.proofs.StepLemmas.{same_at}

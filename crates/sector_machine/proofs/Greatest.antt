@@ -8,15 +8,15 @@ use Rattle.std.specs.declared.cmp.Ordering.TheVariants.{Less, Equal, Greater}
 use Rattle.std.proofs.lemmas.Bool.{false≢true, and_parts, and_from, not-true, not_from_false, ne_eqb, eqb-false}
 use Rattle.std.proofs.lemmas.Cmp.{tied_itself, eq_by_cmp_equiv}
 use Rattle.std.proofs.lemmas.Map.Views.{list_any-from_Contains, Contains-from_any}
-use Rattle.integral_index.specs.declared.Order.{Order}
-use Rattle.integral_index.specs.declared.Unit.{Unit}
-use Rattle.integral_index.specs.Integral.{Integral}
 use Rattle.integral_index.specs.Order.{by_fields, compare, unit_of, unit_compare}
+use Rattle.integral_index.specs.Integral.{Integral}
+use Rattle.integral_index.specs.declared.Unit.{Unit}
+use Rattle.integral_index.specs.declared.Order.{Order}
 use Rattle.integral_index.proofs.Orders.{by_fields-total, by_fields-IsAntisymmetric, compare-total, compare-IsAntisymmetric, compare-of_units}
 use Rattle.sparse_row.specs.Row.{Row, coefficient, Shows, IsRow, IsEmpty, IsGreatest}
 use Rattle.sector_forward.specs.Elimination.{IsShownBySome}
-use Rattle.sector_forward.proofs.Keys.{decided}
 use Rattle.sector_forward.proofs.Members.{Contains-cons_cases, Contains-here, Contains-there}
+use Rattle.sector_forward.proofs.Keys.{decided}
 use Rattle.back_substitute.proofs.Multipliers.{not_above}
 use Rattle.sector_machine.specs.State.{is_greatest, has_greatest_in}
 use Rattle.sector_machine.specs.Machine.{HasGreatestIn}

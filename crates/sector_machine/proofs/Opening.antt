@@ -1,11 +1,11 @@
 -- The invariant holds of the opening.
 use Rattle.std.proofs.Common.{◌≡◌, ℕ, List, [], ◌++◌, Contains, filter, sym, ap, subst, ◌∙◌, inl, inr, arith}
+use Rattle.std.proofs.lemmas.List.Elements.{All-contains, All-nil, Contains-append_left, Contains-append_cases}
 use Rattle.std.specs.FinMap as map
 use Rattle.std.specs.declared.cmp.Ordering.TheVariants.{Less}
-use Rattle.std.proofs.lemmas.List.Elements.{All-contains, All-nil, Contains-append_left, Contains-append_cases}
-use Rattle.integral_index.specs.declared.Order.{Order}
-use Rattle.integral_index.specs.declared.Unit.{Unit}
 use Rattle.integral_index.specs.Order.{unit_of, unit_compare}
+use Rattle.integral_index.specs.declared.Unit.{Unit}
+use Rattle.integral_index.specs.declared.Order.{Order}
 use Rattle.sparse_row.specs.Row.{Row, IsRow}
 use Rattle.sparse_row.specs.Span.{InSpan}
 use Rattle.sparse_row.proofs.RowSpans.{InSpan-empty}
@@ -15,10 +15,10 @@ use Rattle.sector_machine.specs.State.{State, RowsByUnit, HasNone, rows_at, rows
 use Rattle.sector_machine.specs.Machine.{Opens, back_rows}
 use Rattle.sector_machine.specs.Invariant.{HoldsOfUnits, HoldsOfWaiting, HoldsOfBack, HoldsOfSpans, Holds}
 use Rattle.sector_machine.proofs.Lists.{Contains-none, All-from_members, kept_member, member_kept}
-use Rattle.sector_machine.proofs.Units.{rows_of_nothing, rows_by_get, unless_empty-some, unit_of_row, row_of_unit}
+use Rattle.sector_machine.proofs.Units.{rows_of_nothing, unless_empty-some, rows_by_get, row_of_unit, unit_of_row}
 use Rattle.sector_machine.proofs.Greatest.{HasGreatestIn-from_test, test-from_HasGreatestIn, empty_or_greatest}
-use Rattle.sector_machine.proofs.Apart.{AreApart-joined}
 use Rattle.sector_machine.proofs.Rows.{member_in_span}
+use Rattle.sector_machine.proofs.Apart.{AreApart-joined}
 
 -- ---- maps without units
 
@@ -123,10 +123,12 @@ module _ (p : ℕ) (order : Order) (equations : List Row) (state : State) (opens
   pub opening_holds : Holds p order equations state
   opening_holds =
       record {
-        are_rows = opens.are_rows;
-        units = units_hold;
-        waiting = waiting_holds;
-        forward = no_rules state.forward opens.forward p order;
-        back = back_holds;
+        rows = record {
+          are_rows = opens.are_rows;
+          units = units_hold;
+          waiting = waiting_holds;
+          forward = no_rules state.forward opens.forward p order;
+          back = back_holds;
+        };
         spans = spans_hold;
       }

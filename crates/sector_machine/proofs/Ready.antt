@@ -1,18 +1,18 @@
 -- Until the state is done an event may happen for some unit, and then for none.
 use Rattle.std.proofs.Common.{◌≡◌, ◌≢◌, ℕ, List, [], ◌∷◌, All, Contains, sym, ap, subst, ◌∙◌, ◌⊎◌, inl, inr}
+use Rattle.std.proofs.lemmas.List.Elements.{All-contains, All-nil, All-cons}
 use Rattle.std.specs.declared.cmp.Ordering.TheVariants.{Less}
 use Rattle.std.proofs.lemmas.Cmp.{tied_itself}
-use Rattle.std.proofs.lemmas.List.Elements.{All-contains, All-nil, All-cons}
-use Rattle.integral_index.specs.declared.Order.{Order}
-use Rattle.integral_index.specs.declared.Unit.{Unit}
 use Rattle.integral_index.specs.Order.{unit_of, unit_compare}
+use Rattle.integral_index.specs.declared.Unit.{Unit}
+use Rattle.integral_index.specs.declared.Order.{Order}
 use Rattle.integral_index.proofs.Orders.{unit_compare-total}
 use Rattle.sparse_row.specs.Row.{Row}
 use Rattle.sector_forward.specs.Elimination.{IsRuleOf}
 use Rattle.sector_forward.proofs.Members.{Contains-cons_cases, Contains-here, Contains-there, AllPairs-head, AllPairs-tail}
 use Rattle.sector_machine.specs.State.{State, RowsByUnit, Has, HasNone, rows_at}
 use Rattle.sector_machine.specs.Machine.{Ascends, HasGreatestIn, MayForward, MayBack, IsDone}
-use Rattle.sector_machine.specs.Invariant.{Holds}
+use Rattle.sector_machine.specs.Invariant.{HoldsOfRows}
 use Rattle.sector_machine.proofs.Units.{unit_cases, there_or_not}
 use Rattle.sector_machine.proofs.Greatest.{shown_unit_less}
 use Rattle.sector_machine.proofs.Rows.{waiting_taken}
@@ -104,7 +104,7 @@ module _ (m : RowsByUnit) where
 
 -- ---- a unit for which an event may happen
 
-module _ (p : ℕ) (order : Order) (equations : List Row) (state : State) (holds : Holds p order equations state) where
+module _ (p : ℕ) (order : Order) (equations : List Row) (state : State) (holds : HoldsOfRows p order equations state) where
   -- the greatest unit without forward rows has nothing to wait for
   last_may_forward : (unit : Unit) → IsLastWithout state.forward state.units unit → MayForward order unit state
   last_may_forward unit (listed, none, greater) =

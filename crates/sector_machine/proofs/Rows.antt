@@ -1,10 +1,10 @@
 -- The rows of a state of which the invariant holds.
 use Rattle.std.proofs.Common.{◌≡◌, ◌≢◌, ℕ, List, All, Contains, sym, ap, subst, ◌∙◌}
 use Rattle.std.proofs.lemmas.List.Elements.{All-contains}
-use Rattle.integral_index.specs.declared.Order.{Order}
-use Rattle.integral_index.specs.declared.Unit.{Unit}
-use Rattle.integral_index.specs.Integral.{Integral}
 use Rattle.integral_index.specs.Order.{unit_of}
+use Rattle.integral_index.specs.Integral.{Integral}
+use Rattle.integral_index.specs.declared.Unit.{Unit}
+use Rattle.integral_index.specs.declared.Order.{Order}
 use Rattle.sparse_row.specs.Row.{Row, Shows, IsRow, IsGreatest, IsPivot}
 use Rattle.sparse_row.specs.Span.{InSpan}
 use Rattle.sparse_row.proofs.RowSpans.{InSpan-member}
@@ -13,9 +13,9 @@ use Rattle.sector_forward.specs.Elimination.{IsTaken, IsRuleOf, IsShownBySome}
 use Rattle.back_substitute.specs.Substitution.{AreRules}
 use Rattle.sector_machine.specs.State.{State, Has, HasNone, rows_at, rows_of}
 use Rattle.sector_machine.specs.Machine.{back_rows, HasGreatestIn}
-use Rattle.sector_machine.specs.Invariant.{Holds}
+use Rattle.sector_machine.specs.Invariant.{HoldsOfRows}
 use Rattle.sector_machine.proofs.Lists.{All-from_members}
-use Rattle.sector_machine.proofs.Units.{Has-from_member, unit_of_row, row_of_unit}
+use Rattle.sector_machine.proofs.Units.{Has-from_member, row_of_unit, unit_of_row}
 
 -- ---- rows of one unit
 
@@ -38,7 +38,7 @@ one_unit order row unit other (x, top, of_unit) (y, also, of_other) = sym of_uni
 pub member_in_span : (p : ℕ) (order : Order) (rows : List Row) (row : Row) → IsRow p order row → Contains rows row → InSpan p rows row
 member_in_span p order rows row is member = InSpan-member p rows row is.below member
 
-module _ (p : ℕ) (order : Order) (equations : List Row) (state : State) (holds : Holds p order equations state) where
+module _ (p : ℕ) (order : Order) (equations : List Row) (state : State) (holds : HoldsOfRows p order equations state) where
   -- ---- the waiting rows
 
   pub waiting_taken : (unit : Unit) (row : Row) → Contains (rows_at state.waiting unit) row → IsTaken p order unit row

@@ -3,9 +3,9 @@ use Rattle.std.proofs.Common.{◌≡◌, ℕ, List, [], ◌∷◌, ◌++◌, Con
 use Rattle.std.specs.FinMap as map
 use Rattle.std.specs.declared.cmp.Ordering.TheVariants.{Less}
 use Rattle.std.proofs.lemmas.Cmp.{tied_itself}
-use Rattle.integral_index.specs.declared.Order.{Order}
-use Rattle.integral_index.specs.declared.Unit.{Unit}
 use Rattle.integral_index.specs.Order.{unit_compare}
+use Rattle.integral_index.specs.declared.Unit.{Unit}
+use Rattle.integral_index.specs.declared.Order.{Order}
 use Rattle.integral_index.proofs.Orders.{unit_compare-total, unit_compare-IsAntisymmetric}
 use Rattle.sparse_row.specs.Row.{Row}
 use Rattle.sector_forward.proofs.Members.{same_from_members}

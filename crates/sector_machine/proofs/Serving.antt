@@ -1,21 +1,33 @@
 -- What is computed from the rows of a task is an event.
-use Rattle.std.proofs.Common.{ℕ, List, Contains}
-use Rattle.integral_index.specs.declared.Order.{Order}
+use Rattle.std.proofs.Common.{ℕ, ◌<◌, List, length, get_or, Contains, sym, subst, arith}
+use Rattle.std.proofs.lemmas.List.Elements.{Contains-get_or}
 use Rattle.integral_index.specs.declared.Unit.{Unit}
-use Rattle.sparse_row.specs.Row.{Row}
-use Rattle.back_substitute.specs.Substitution.{IsRuleOutside, AreBelow, IsSubstitution}
+use Rattle.integral_index.specs.declared.Order.{Order}
+use Rattle.sparse_row.specs.Row.{Row, IsPivot}
+use Rattle.back_substitute.specs.Substitution.{AreRules, IsRuleOutside, AreBelow, HavePivotsOf, IsSubstitution}
 use Rattle.back_substitute.specs.Laws.{HasAllShown}
 use Rattle.back_substitute.proofs.Longer.{clear_of_all, span_with_all}
 use Rattle.sector_machine.specs.State.{State, rows_at}
-use Rattle.sector_machine.specs.Machine.{back_rows, MayBack, IsAfterBack, IsBack}
+use Rattle.sector_machine.specs.Machine.{back_rows, MayBack, HaveThePivots, IsAfterBack, IsBack}
 use Rattle.sector_machine.specs.Tasks.{shows_pivot_of, below_of}
-use Rattle.sector_machine.specs.Invariant.{Holds}
+use Rattle.sector_machine.specs.Invariant.{HoldsOfRows}
 use Rattle.sector_machine.proofs.Lists.{All-from_members, kept_member, member_kept}
 use Rattle.sector_machine.proofs.Greatest.{test-from_shown}
-use Rattle.sector_machine.proofs.Apart.{AreApart-filter}
 use Rattle.sector_machine.proofs.Rows.{back_row, back_pivot, back_are_rows, back_shows_none}
+use Rattle.sector_machine.proofs.Apart.{AreApart-filter}
 
-module _ (p : ℕ) (order : Order) (equations : List Row) (unit : Unit) (state : State) (holds : Holds p order equations state) where
+-- pivots that are kept place by place are kept
+the_pivots : (p : ℕ) (order : Order) (unit : Unit) (input rows : List Row) → AreRules p order unit input → HavePivotsOf order input rows → HaveThePivots order input rows
+the_pivots p order unit input rows rules kept =
+    record {
+      len = kept.len;
+      each = λ row x member pivot.
+          let k = member.0 in
+          let in_rows : k < length rows = omega (arith, kept.len, member.1) in
+          (get_or rows k row, Contains-get_or rows k row in_rows, kept.kept k row x member.1 (subst (λ r. IsPivot order r x) (sym member.2) pivot));
+    }
+
+module _ (p : ℕ) (order : Order) (equations : List Row) (unit : Unit) (state : State) (holds : HoldsOfRows p order equations state) where
   of_back : (row : Row) → Contains (below_of order state unit) row → Contains (back_rows state) row
   of_back row member = (kept_member (shows_pivot_of order (rows_at state.forward unit)) (back_rows state) row member).0
 
@@ -50,7 +62,7 @@ module _ (p : ℕ) (order : Order) (equations : List Row) (unit : Unit) (state :
       record {
         may = may;
         rules = s.rules;
-        pivots = s.pivots;
+        pivots = the_pivots p order unit (rows_at state.forward unit) rows s.given s.pivots;
         clear = clear_of_all p order unit (rows_at state.forward unit) below rows (back_rows state) s all;
         span = span_with_all p order unit (rows_at state.forward unit) below rows (back_rows state) s all;
         change = change;

@@ -1,19 +1,18 @@
 -- There is a state after each forward event.
 use Rattle.std.proofs.Common.{◌≡◌, ◌≢◌, ℕ, cond, List, [], ◌∷◌, ◌++◌, Contains, filter, refl, sym, ap, subst, ◌∙◌, ◌⊎◌, inl, inr}
+use Rattle.std.proofs.lemmas.List.Elements.{All-contains, Contains-append_right, Contains-append_cases}
 use Rattle.std.specs.FinMap as map
 use Rattle.std.specs.Ordering.{eq_by_cmp}
-use Rattle.std.proofs.lemmas.List.Elements.{Contains-append_cases}
-use Rattle.integral_index.specs.declared.Order.{Order}
-use Rattle.integral_index.specs.declared.Unit.{Unit}
 use Rattle.integral_index.specs.Order.{unit_compare}
+use Rattle.integral_index.specs.declared.Unit.{Unit}
+use Rattle.integral_index.specs.declared.Order.{Order}
 use Rattle.sparse_row.specs.Row.{Row}
-use Rattle.sector_forward.specs.Elimination.{IsOutside, IsElimination}
-use Rattle.sector_forward.proofs.Eliminations.{nothing_new}
-use Rattle.std.proofs.lemmas.List.Elements.{All-contains, Contains-append_right}
+use Rattle.sector_forward.specs.Elimination.{IsOutside}
 use Rattle.sector_forward.proofs.Members.{Contains-cons_cases, Contains-here}
 use Rattle.sector_machine.specs.State.{State, RowsByUnit, HasNone, rows_at, unless_empty, has_greatest_in}
 use Rattle.sector_machine.specs.Machine.{IsAfterForward}
-use Rattle.sector_machine.specs.Invariant.{Holds}
+use Rattle.sector_machine.specs.Accepted.{IsAcceptedForward}
+use Rattle.sector_machine.specs.Invariant.{HoldsOfRows}
 use Rattle.sector_machine.proofs.Lists.{Contains-none, kept_member}
 use Rattle.sector_machine.proofs.Units.{unit_cases, tied_unit, other_unit, get_inserted, get_others}
 use Rattle.sector_machine.proofs.Greatest.{HasGreatestIn-from_test}
@@ -72,7 +71,7 @@ set_everywhere group units listed u =
 
 -- ---- the state after a forward event
 
-module _ (p : ℕ) (order : Order) (equations : List Row) (unit : Unit) (rows rest : List Row) (before : State) (holds : Holds p order equations before) (e : IsElimination p order unit (rows_at before.waiting unit) rows rest) where
+module _ (p : ℕ) (order : Order) (equations : List Row) (unit : Unit) (rows rest : List Row) (before : State) (holds : HoldsOfRows p order equations before) (accepted : IsAcceptedForward p order before unit rows rest) where
   group : Unit → List Row
   group u = cond (eq_by_cmp unit_compare u unit) [] (rows_at before.waiting u ++ filter (has_greatest_in order u) rest)
 
@@ -95,9 +94,9 @@ module _ (p : ℕ) (order : Order) (equations : List Row) (unit : Unit) (rows re
                   subst (Contains before.units) top.2 (holds.units.waiting row top.0 (u, old) (top.1).shown)
               | inr new ↦
                   let kept = kept_member (has_greatest_in order u) rest row new in
-                  let is = (All-contains (IsOutside p order unit) rest row e.are_outside kept.0).is_row in
+                  let is = (All-contains (IsOutside p order unit) rest row accepted.outside kept.0).is_row in
                   let top = HasGreatestIn-from_test p order u row is kept.1 in
-                  let shown = nothing_new p order unit (rows_at before.waiting unit) rows rest row top.0 e (Contains-append_right rows rest row kept.0) (top.1).shown in
+                  let shown = accepted.nothing_new row top.0 (Contains-append_right rows rest row kept.0) (top.1).shown in
                   subst (Contains before.units) top.2 (waiting_shown_listed p order equations before holds unit top.0 shown)
             ]
       ]

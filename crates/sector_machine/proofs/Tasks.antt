@@ -2,33 +2,35 @@
 use Rattle.std.proofs.Common.{◌≡◌, ◌≢◌, ℕ, Bool, List, [], ◌++◌, Contains, filter, refl, sym, ap, subst, ◌∙◌, inl, inr, append-nil}
 use Rattle.std.specs.FinMap as map
 use Rattle.std.proofs.lemmas.Bool.{false_from_ne_true}
-use Rattle.integral_index.specs.declared.Order.{Order}
-use Rattle.integral_index.specs.declared.Unit.{Unit}
-use Rattle.integral_index.specs.Integral.{Integral}
 use Rattle.integral_index.specs.Order.{unit_of}
+use Rattle.integral_index.specs.Integral.{Integral}
+use Rattle.integral_index.specs.declared.Unit.{Unit}
+use Rattle.integral_index.specs.declared.Order.{Order}
 use Rattle.sparse_row.specs.Row.{Row, Shows}
-use Rattle.sector_forward.specs.Elimination.{IsElimination}
 use Rattle.back_substitute.specs.Substitution.{AreRules}
 use Rattle.sector_machine.specs.State.{State, RowsByUnit, HasNone, rows_at, rows_of, unless_empty, has_greatest_in}
 use Rattle.sector_machine.specs.Machine.{MayForward, MayBack, Event, unit_of_event, Leads}
 use Rattle.sector_machine.specs.Tasks.{shows_pivot_of, below_of, KeepsTask}
-use Rattle.sector_machine.specs.Invariant.{Holds}
+use Rattle.sector_machine.specs.Accepted.{IsAcceptedForward}
+use Rattle.sector_machine.specs.Invariant.{HoldsOfRows}
 use Rattle.sector_machine.proofs.Lists.{none_kept, filter-joined, joined_same}
 use Rattle.sector_machine.proofs.Units.{unit_cases, get_others, rows_inserted, rows_others, Has-more, no_rows}
 use Rattle.sector_machine.proofs.Greatest.{HasGreatestIn-from_test, shown_from_test}
 use Rattle.sector_machine.proofs.Rows.{row_of_rules, unit_of_pivot, one_unit, waiting_taken}
-use Rattle.sector_machine.proofs.ForwardEvents.{group_is, rest_row, waits_cases, shown_by_rest}
+use Rattle.sector_machine.proofs.ForwardEvents.{group_is, rest_row, waits_cases, shown_by_rest, forward_is_accepted}
+use Rattle.sector_machine.proofs.ForwardEvents as forward_events
+use Rattle.sector_machine.proofs.BackEvents as back_events
 
 -- ---- after a forward event
 
-module _ (p : ℕ) (order : Order) (equations : List Row) (unit : Unit) (rows rest : List Row) (before : State) (holds : Holds p order equations before) (may : MayForward order unit before) (e : IsElimination p order unit (rows_at before.waiting unit) rows rest) (waiting : RowsByUnit) (taken : HasNone waiting unit) (others : (other : Unit) → other ≢ unit → map.get waiting other ≡ unless_empty (rows_at before.waiting other ++ filter (has_greatest_in order other) rest)) (other : Unit) (differ : other ≢ unit) where
+module _ (p : ℕ) (order : Order) (equations : List Row) (unit : Unit) (rows rest : List Row) (before : State) (holds : HoldsOfRows p order equations before) (accepted : IsAcceptedForward p order before unit rows rest) (waiting : RowsByUnit) (taken : HasNone waiting unit) (others : (other : Unit) → other ≢ unit → map.get waiting other ≡ unless_empty (rows_at before.waiting other ++ filter (has_greatest_in order other) rest)) (other : Unit) (differ : other ≢ unit) where
   abbrev after : State
   after = record { units = before.units; waiting = waiting; forward = map.insert before.forward unit rows; back = before.back }
 
   -- the rest shows nothing of a unit that may be eliminated beside this one
   rest_shows_none : MayForward order other before → (row : Row) (x : Integral) → Contains rest row → Shows row x → unit_of x ≢ other
   rest_shows_none may_other row x member shows same =
-      let shown = shown_by_rest p order equations unit rows rest before holds may e waiting taken others row x member shows in
+      let shown = shown_by_rest p order equations unit rows rest before holds accepted waiting taken others row x member shows in
       let in_other = may_other.alone shown.0 x (unit, shown.1) shown.2 same in
       differ (sym (one_unit order shown.0 unit other (waiting_taken p order equations before holds unit shown.0 shown.1).greatest in_other))
 
@@ -38,7 +40,7 @@ module _ (p : ℕ) (order : Order) (equations : List Row) (unit : Unit) (rows re
       (λ row member.
       false_from_ne_true (has_greatest_in order other row)
       (λ passes.
-      let is = (rest_row p order equations unit rows rest before holds may e waiting taken others row member).is_row in
+      let is = (rest_row p order equations unit rows rest before holds accepted waiting taken others row member).is_row in
       let top = HasGreatestIn-from_test p order other row is passes in
       rest_shows_none may_other row top.0 member (top.1).shown top.2))
 
@@ -48,12 +50,12 @@ module _ (p : ℕ) (order : Order) (equations : List Row) (unit : Unit) (rows re
       listed = may_other.listed;
       new = get_others before.forward unit rows other differ ∙ may_other.new;
       alone = λ row x (place, member) shows same.
-          elim ((waits_cases p order equations unit rows rest before holds may e waiting taken others place row member).1) [
+          elim ((waits_cases p order equations unit rows rest before holds accepted waiting taken others place row member).1) [
             | inl old ↦ may_other.alone row x (place, old) shows same
             | inr new ↦ absurd (rest_shows_none may_other row x new.0 shows same)
           ];
     },
-    group_is p order equations unit rows rest before holds may e waiting taken others other differ
+    group_is p order equations unit rows rest before holds accepted waiting taken others other differ
         ∙ ap (λ rs. rows_at before.waiting other ++ rs) (rest_waits_elsewhere may_other) ∙ append-nil (rows_at before.waiting other),
   )
 
@@ -76,7 +78,7 @@ module _ (p : ℕ) (order : Order) (equations : List Row) (unit : Unit) (rows re
 
 -- ---- after a back event
 
-module _ (p : ℕ) (order : Order) (equations : List Row) (unit : Unit) (rows : List Row) (before : State) (holds : Holds p order equations before) (may : MayBack unit before) (rules : AreRules p order unit rows) (other : Unit) (differ : other ≢ unit) where
+module _ (p : ℕ) (order : Order) (equations : List Row) (unit : Unit) (rows : List Row) (before : State) (holds : HoldsOfRows p order equations before) (may : MayBack unit before) (rules : AreRules p order unit rows) (other : Unit) (differ : other ≢ unit) where
   abbrev after_back : State
   after_back = record { units = before.units; waiting = before.waiting; forward = before.forward; back = map.insert before.back unit rows }
 
@@ -126,15 +128,10 @@ module _ (p : ℕ) (order : Order) (equations : List Row) (unit : Unit) (rows : 
 
 -- ---- after either
 
-pub event_keeps_task : (p : ℕ) (order : Order) (equations : List Row) (event : Event) (unit : Unit) (before after : State) → Holds p order equations before → Leads p order event before after → unit ≢ unit_of_event event → KeepsTask order unit before after
+pub event_keeps_task : (p : ℕ) (order : Order) (equations : List Row) (event : Event) (unit : Unit) (before after : State) → HoldsOfRows p order equations before → Leads p order event before after → unit ≢ unit_of_event event → KeepsTask order unit before after
 event_keeps_task p order equations (Event.Forward unit rows rest) other before after holds leads differ =
     let c = leads.change in
-    let same : record { units = before.units; waiting = after.waiting; forward = map.insert before.forward unit rows; back = before.back } ≡ after =
-    λ i. record { units = sym c.units i; waiting = after.waiting; forward = sym c.forward i; back = sym c.back i } in
-    subst (KeepsTask order other before) same
-    (forward_keeps_task p order equations unit rows rest before holds leads.may leads.elimination after.waiting c.taken c.waiting other differ)
+    subst (KeepsTask order other before) (forward_events.after_is order unit rows rest before after c)
+    (forward_keeps_task p order equations unit rows rest before holds (forward_is_accepted p order unit rows rest before after leads) after.waiting c.taken c.waiting other differ)
 event_keeps_task p order equations (Event.Back unit rows) other before after holds leads differ =
-    let c = leads.change in
-    let same : record { units = before.units; waiting = before.waiting; forward = before.forward; back = map.insert before.back unit rows } ≡ after =
-    λ i. record { units = sym c.units i; waiting = sym c.waiting i; forward = sym c.forward i; back = sym c.back i } in
-    subst (KeepsTask order other before) same (back_keeps_task p order equations unit rows before holds leads.may leads.rules other differ)
+    subst (KeepsTask order other before) (back_events.after_is unit rows before after leads.change) (back_keeps_task p order equations unit rows before holds leads.may leads.rules other differ)

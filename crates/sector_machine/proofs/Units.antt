@@ -5,8 +5,8 @@ use Rattle.std.specs.Ordering.{is_eq, eq_by_cmp}
 use Rattle.std.specs.declared.cmp.Ordering.TheVariants.{Less, Equal, Greater}
 use Rattle.std.proofs.lemmas.Bool.{false≢true}
 use Rattle.std.proofs.lemmas.Cmp.{tied_itself}
-use Rattle.integral_index.specs.declared.Unit.{Unit}
 use Rattle.integral_index.specs.Order.{unit_compare}
+use Rattle.integral_index.specs.declared.Unit.{Unit}
 use Rattle.integral_index.proofs.Orders.{unit_compare-total, unit_compare-IsAntisymmetric}
 use Rattle.sparse_row.specs.Row.{Row}
 use Rattle.sector_machine.specs.State.{RowsByUnit, Has, HasNone, rows_at, IsAmong, rows_of, unless_empty}

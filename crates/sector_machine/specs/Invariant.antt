@@ -8,9 +8,9 @@ use Rattle.integral_index.specs.Order.{unit_of}
 use Rattle.sparse_row.specs.Row.{Row, Shows, IsRow}
 use Rattle.sparse_row.specs.Span.{InSpan, SameSpan}
 use Rattle.sector_forward.specs.Elimination.{IsTaken, AreApart}
-use Rattle.back_substitute.specs.Substitution.{AreRules, HavePivotsOf}
+use Rattle.back_substitute.specs.Substitution.{AreRules}
 use Rattle.sector_machine.specs.State.{State, RowsByUnit, Has, HasNone, rows_at, IsAmong, rows_of}
-use Rattle.sector_machine.specs.Machine.{AreUnitsOf, back_rows}
+use Rattle.sector_machine.specs.Machine.{AreUnitsOf, HaveThePivots, back_rows}
 
 -- all integrals that rows of the map show are of these units
 abbrev pub ShowOnlyUnits : List Unit → RowsByUnit → Type 0
@@ -34,9 +34,17 @@ pub record HoldsOfWaiting (p : ℕ) (order : Order) (state : State) : Type 0 whe
 pub record HoldsOfBack (p : ℕ) (order : Order) (state : State) : Type 0 where
   pub rules : (unit : Unit) → AreRules p order unit (rows_at state.back unit)
   pub eliminated : (unit : Unit) → Has state.back unit → Has state.forward unit
-  pub pivots : (unit : Unit) → Has state.back unit → HavePivotsOf order (rows_at state.forward unit) (rows_at state.back unit)
+  pub pivots : (unit : Unit) → Has state.back unit → HaveThePivots order (rows_at state.forward unit) (rows_at state.back unit)
   pub closed : (row : Row) (x : Integral) → IsAmong state.back row → Shows row x → Has state.back (unit_of x)
   pub apart : AreApart order (back_rows state)
+
+-- what holds of the rows of a state, apart from what they span. Rows that are accepted keep it, also where they meet no event
+pub record HoldsOfRows (p : ℕ) (order : Order) (equations : List Row) (state : State) : Type 0 where
+  pub are_rows : All (IsRow p order) equations
+  pub units : HoldsOfUnits equations state
+  pub waiting : HoldsOfWaiting p order state
+  pub forward : (unit : Unit) → AreRules p order unit (rows_at state.forward unit)
+  pub back : HoldsOfBack p order state
 
 -- the spans: the waiting rows and the forward rows span what the equations do; the back rows are spanned by the forward rows,
 -- and span those of the units that have back rows
@@ -47,9 +55,5 @@ pub record HoldsOfSpans (p : ℕ) (equations : List Row) (state : State) : Type 
 
 -- what holds of each state that a run reaches: every event keeps it
 pub record Holds (p : ℕ) (order : Order) (equations : List Row) (state : State) : Type 0 where
-  pub are_rows : All (IsRow p order) equations
-  pub units : HoldsOfUnits equations state
-  pub waiting : HoldsOfWaiting p order state
-  pub forward : (unit : Unit) → AreRules p order unit (rows_at state.forward unit)
-  pub back : HoldsOfBack p order state
+  pub rows : HoldsOfRows p order equations state
   pub spans : HoldsOfSpans p equations state

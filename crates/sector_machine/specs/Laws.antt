@@ -10,9 +10,10 @@ use Rattle.sector_forward.specs.Elimination.{IsTaken, IsElimination}
 use Rattle.back_substitute.specs.Substitution.{AreRules, AreBelow, IsSubstitution}
 use Rattle.back_substitute.specs.Laws.{HasAllShown}
 use Rattle.sector_machine.specs.State.{State, Has, HasNone, rows_at, IsAmong, has_greatest_in}
-use Rattle.sector_machine.specs.Machine.{Opens, back_rows, HasGreatestIn, MayForward, MayBack, IsAfterForward, IsAfterBack, Event, unit_of_event, Leads, IsRun, IsDone}
+use Rattle.sector_machine.specs.Machine.{Opens, back_rows, HasGreatestIn, MayForward, MayBack, IsAfterForward, IsAfterBack, IsForward, IsBack, Event, unit_of_event, Leads, IsRun, IsDone}
 use Rattle.sector_machine.specs.Tasks.{below_of, KeepsTask, IsTableOf}
-use Rattle.sector_machine.specs.Invariant.{Holds}
+use Rattle.sector_machine.specs.Accepted.{IsAcceptedForward, IsAcceptedBack}
+use Rattle.sector_machine.specs.Invariant.{HoldsOfRows, Holds}
 
 -- ---- what holds of each state that a run reaches
 
@@ -26,6 +27,28 @@ EventsKeepHolds =
 
 abbrev pub RunsHold : Type 0
 RunsHold = (p : ℕ) (order : Order) (equations : List Row) (events : List Event) (state : State) → IsRun p order equations events state → Holds p order equations state
+
+-- an event is accepted
+abbrev pub ForwardIsAccepted : Type 0
+ForwardIsAccepted =
+    (p : ℕ) (order : Order) (unit : Unit) (rows rest : List Row) (before after : State)
+    → IsForward p order unit rows rest before after → IsAcceptedForward p order before unit rows rest
+
+abbrev pub BackIsAccepted : Type 0
+BackIsAccepted =
+    (p : ℕ) (order : Order) (unit : Unit) (rows : List Row) (before after : State)
+    → IsBack p order unit rows before after → IsAcceptedBack p order before unit rows
+
+-- and rows that are accepted keep what holds of rows, apart from spans
+abbrev pub AcceptedForwardKeepsRows : Type 0
+AcceptedForwardKeepsRows =
+    (p : ℕ) (order : Order) (equations : List Row) (unit : Unit) (rows rest : List Row) (before after : State)
+    → HoldsOfRows p order equations before → IsAcceptedForward p order before unit rows rest → IsAfterForward order unit rows rest before after → HoldsOfRows p order equations after
+
+abbrev pub AcceptedBackKeepsRows : Type 0
+AcceptedBackKeepsRows =
+    (p : ℕ) (order : Order) (equations : List Row) (unit : Unit) (rows : List Row) (before after : State)
+    → HoldsOfRows p order equations before → IsAcceptedBack p order before unit rows → IsAfterBack unit rows before after → HoldsOfRows p order equations after
 
 -- ---- runs
 
@@ -77,7 +100,7 @@ BackRowsShowDoneUnits =
 abbrev pub TakenShowTheUnit : Type 0
 TakenShowTheUnit =
     (p : ℕ) (order : Order) (equations : List Row) (unit : Unit) (state : State) (row : Row)
-    → Holds p order equations state → MayForward order unit state
+    → HoldsOfRows p order equations state → MayForward order unit state
     → Contains (rows_at state.waiting unit) row ↔ (IsAmong state.waiting row × ((x : Integral) × Shows row x × (unit_of x ≡ unit)))
 
 -- the test by which waiting rows are grouped
@@ -90,13 +113,13 @@ GroupedByGreatest = (p : ℕ) (order : Order) (unit : Unit) (row : Row) → IsRo
 abbrev pub TasksStay : Type 0
 TasksStay =
     (p : ℕ) (order : Order) (equations : List Row) (event : Event) (unit : Unit) (before after : State)
-    → Holds p order equations before → Leads p order event before after → unit ≢ unit_of_event event → KeepsTask order unit before after
+    → HoldsOfRows p order equations before → Leads p order event before after → unit ≢ unit_of_event event → KeepsTask order unit before after
 
 -- where events of two units may both happen, each may still happen after the other
 abbrev pub EventsFollowEachOther : Type 0
 EventsFollowEachOther =
     (p : ℕ) (order : Order) (equations : List Row) (event other : Event) (before after next : State)
-    → Holds p order equations before → Leads p order event before after → Leads p order other before next → unit_of_event other ≢ unit_of_event event
+    → HoldsOfRows p order equations before → Leads p order event before after → Leads p order other before next → unit_of_event other ≢ unit_of_event event
     → (last : State) × Leads p order other after last
 
 -- ---- which events may happen
@@ -105,13 +128,13 @@ EventsFollowEachOther =
 abbrev pub SomethingIsReady : Type 0
 SomethingIsReady =
     (p : ℕ) (order : Order) (equations : List Row) (state : State)
-    → Holds p order equations state → ¬ (IsDone state) → (unit : Unit) × (MayForward order unit state ⊎ MayBack unit state)
+    → HoldsOfRows p order equations state → ¬ (IsDone state) → (unit : Unit) × (MayForward order unit state ⊎ MayBack unit state)
 
 -- and then none
 abbrev pub DoneIsTheEnd : Type 0
 DoneIsTheEnd =
     (p : ℕ) (order : Order) (equations : List Row) (unit : Unit) (state : State)
-    → Holds p order equations state → IsDone state → ¬ (MayForward order unit state) × ¬ (MayBack unit state)
+    → HoldsOfRows p order equations state → IsDone state → ¬ (MayForward order unit state) × ¬ (MayBack unit state)
 
 -- ---- what is computed serves
 
@@ -119,38 +142,38 @@ DoneIsTheEnd =
 abbrev pub TakenMeetTheConditions : Type 0
 TakenMeetTheConditions =
     (p : ℕ) (order : Order) (equations : List Row) (unit : Unit) (state : State)
-    → Holds p order equations state → All (IsTaken p order unit) (rows_at state.waiting unit)
+    → HoldsOfRows p order equations state → All (IsTaken p order unit) (rows_at state.waiting unit)
 
 abbrev pub ForwardRowsMeetTheConditions : Type 0
 ForwardRowsMeetTheConditions =
     (p : ℕ) (order : Order) (equations : List Row) (unit : Unit) (state : State)
-    → Holds p order equations state → MayBack unit state
+    → HoldsOfRows p order equations state → MayBack unit state
     → AreRules p order unit (rows_at state.forward unit) × AreBelow p order unit (below_of order state unit)
 
 -- an elimination of the rows that wait at the unit is a forward event of it
 abbrev pub EliminationServes : Type 0
 EliminationServes =
-    (p : ℕ) (order : Order) (equations : List Row) (unit : Unit) (rows rest : List Row) (before after : State)
-    → Holds p order equations before → MayForward order unit before → IsElimination p order unit (rows_at before.waiting unit) rows rest
-    → IsAfterForward order unit rows rest before after → Leads p order (Event.Forward unit rows rest) before after
+    (p : ℕ) (order : Order) (unit : Unit) (rows rest : List Row) (before after : State)
+    → MayForward order unit before → IsElimination p order unit (rows_at before.waiting unit) rows rest → IsAfterForward order unit rows rest before after
+    → Leads p order (Event.Forward unit rows rest) before after
+
+-- and it leads to a state
+abbrev pub StatesAreThere : Type 0
+StatesAreThere =
+    (p : ℕ) (order : Order) (equations : List Row) (unit : Unit) (rows rest : List Row) (before : State)
+    → HoldsOfRows p order equations before → MayForward order unit before → IsElimination p order unit (rows_at before.waiting unit) rows rest
+    → (after : State) × Leads p order (Event.Forward unit rows rest) before after
 
 -- a back substitution of the unit's forward rows by the back rows whose pivots they show is a back event of it
 abbrev pub SubstitutionServes : Type 0
 SubstitutionServes =
     (p : ℕ) (order : Order) (equations : List Row) (unit : Unit) (rows : List Row) (before after : State)
-    → Holds p order equations before → MayBack unit before → IsSubstitution p order unit (rows_at before.forward unit) (below_of order before unit) rows
+    → HoldsOfRows p order equations before → MayBack unit before → IsSubstitution p order unit (rows_at before.forward unit) (below_of order before unit) rows
     → IsAfterBack unit rows before after → Leads p order (Event.Back unit rows) before after
 
 -- and so is one by any back rows among which these are
 abbrev pub MoreBelowServes : Type 0
 MoreBelowServes =
     (p : ℕ) (order : Order) (equations : List Row) (unit : Unit) (below rows : List Row) (before after : State)
-    → Holds p order equations before → MayBack unit before → HasAllShown p order (rows_at before.forward unit) below (back_rows before)
+    → HoldsOfRows p order equations before → MayBack unit before → HasAllShown p order (rows_at before.forward unit) below (back_rows before)
     → IsSubstitution p order unit (rows_at before.forward unit) below rows → IsAfterBack unit rows before after → Leads p order (Event.Back unit rows) before after
-
--- there is a state with the rows and the rest
-abbrev pub StatesAreThere : Type 0
-StatesAreThere =
-    (p : ℕ) (order : Order) (equations : List Row) (unit : Unit) (rows rest : List Row) (before : State)
-    → Holds p order equations before → MayForward order unit before → IsElimination p order unit (rows_at before.waiting unit) rows rest
-    → (after : State) × IsAfterForward order unit rows rest before after

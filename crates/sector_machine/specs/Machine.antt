@@ -1,17 +1,17 @@
 -- The machine of units: from which states which events lead to which.
 -- Source: Laporta, hep-ph/0102033, and Kira, arXiv:1705.05610, which eliminate sector by sector and insert the relations of
 -- lesser sectors into those of a greater one; that units wait for each other only as far as their rows ask is the project's own.
-use Rattle.std.specs.Prelude.{◌≡◌, ◌≢◌, List, [], ◌∷◌, ◌++◌, ℕ, All, AllPairs, Contains, filter}
+use Rattle.std.specs.Prelude.{◌≡◌, ◌≢◌, List, [], ◌∷◌, ◌++◌, ℕ, length, All, AllPairs, Contains, filter}
 use Rattle.std.specs.FinMap as map
 use Rattle.std.specs.declared.cmp.Ordering.TheVariants.{Less}
 use Rattle.integral_index.specs.declared.Order.{Order}
 use Rattle.integral_index.specs.declared.Unit.{Unit}
 use Rattle.integral_index.specs.Integral.{Integral}
 use Rattle.integral_index.specs.Order.{unit_of, unit_compare}
-use Rattle.sparse_row.specs.Row.{Row, Shows, IsRow, IsGreatest}
+use Rattle.sparse_row.specs.Row.{Row, Shows, IsRow, IsGreatest, IsPivot}
 use Rattle.sparse_row.specs.Span.{SameSpan}
 use Rattle.sector_forward.specs.Elimination.{IsElimination, IsShownBySome}
-use Rattle.back_substitute.specs.Substitution.{AreRules, HavePivotsOf, ShowsNoPivotOf}
+use Rattle.back_substitute.specs.Substitution.{AreRules, ShowsNoPivotOf}
 use Rattle.sector_machine.specs.State.{State, Has, HasNone, rows_at, IsAmong, rows_of, unless_empty, has_greatest_in}
 
 -- the units ascend, each once
@@ -53,6 +53,11 @@ pub record MayBack (unit : Unit) (state : State) : Type 0 where
   pub new : HasNone state.back unit
   pub lesser : (row : Row) (x : Integral) → Contains (rows_at state.forward unit) row → Shows row x → unit_of x ≢ unit → Has state.back (unit_of x)
 
+-- as many rows, among which each pivot of the others is a pivot. Where no two of the others have one pivot, these are all
+pub record HaveThePivots (order : Order) (others rows : List Row) : Type 0 where
+  pub len : length rows ≡ length others
+  pub each : (other : Row) (x : Integral) → Contains others other → IsPivot order other x → (row : Row) × Contains rows row × IsPivot order row x
+
 -- the state with these forward rows of the unit and this rest: the rows that waited at the unit wait no more, and the rest
 -- waits at the units of its greatest integrals, behind what waits there
 pub record IsAfterForward (order : Order) (unit : Unit) (rows rest : List Row) (before after : State) : Type 0 where
@@ -76,11 +81,11 @@ pub record IsForward (p : ℕ) (order : Order) (unit : Unit) (rows rest : List R
   pub change : IsAfterForward order unit rows rest before after
 
 -- the pivots of lesser units are cleared out of the unit's forward rows, which gives its back rows: they have the pivots of
--- the forward rows, place by place, show no pivot of B, and span with all rows of B what the forward rows span with these
+-- the forward rows, in any order, show no pivot of B, and span with all rows of B what the forward rows span with these
 pub record IsBack (p : ℕ) (order : Order) (unit : Unit) (rows : List Row) (before after : State) : Type 0 where
   pub may : MayBack unit before
   pub rules : AreRules p order unit rows
-  pub pivots : HavePivotsOf order (rows_at before.forward unit) rows
+  pub pivots : HaveThePivots order (rows_at before.forward unit) rows
   pub clear : All (ShowsNoPivotOf order (back_rows before)) rows
   pub span : SameSpan p (rows_at before.forward unit ++ back_rows before) (rows ++ back_rows before)
   pub change : IsAfterBack unit rows before after

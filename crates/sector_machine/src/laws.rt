@@ -1,12 +1,21 @@
 //! The laws of the machine of units: each is the contract of a function that does nothing.
 
-ghost use Rattle.sector_machine.specs.Laws.{OpeningHolds, EventsKeepHolds, RunsHold, RunsGoOn, OneOpening, OneStateAfter, DoneIsReduced, HoldsDoneIsReduced, WaitingShowsNoEliminatedUnit, BackRowsShowDoneUnits, TakenShowTheUnit, GroupedByGreatest, TasksStay, EventsFollowEachOther, SomethingIsReady, DoneIsTheEnd, TakenMeetTheConditions, ForwardRowsMeetTheConditions, EliminationServes, SubstitutionServes, MoreBelowServes, StatesAreThere};
+ghost use Rattle.sector_machine.specs.Laws.{OpeningHolds, EventsKeepHolds, RunsHold, ForwardIsAccepted, BackIsAccepted, AcceptedForwardKeepsRows, AcceptedBackKeepsRows, RunsGoOn, OneOpening, OneStateAfter, DoneIsReduced, HoldsDoneIsReduced, WaitingShowsNoEliminatedUnit, BackRowsShowDoneUnits, TakenShowTheUnit, GroupedByGreatest, TasksStay, EventsFollowEachOther, SomethingIsReady, DoneIsTheEnd, TakenMeetTheConditions, ForwardRowsMeetTheConditions, EliminationServes, SubstitutionServes, MoreBelowServes, StatesAreThere};
 
 /// What holds of an opening, and so of each state that a run reaches, since every event keeps it.
 pub fn events_keep_the_invariant()
     ensures opening { OpeningHolds }
     ensures event { EventsKeepHolds }
     ensures run { RunsHold }
+{}
+
+/// Every event is accepted, and rows that are accepted keep what holds of the rows of a state, whether
+/// or not they meet an event.
+pub fn accepted_rows_keep_the_rows()
+    ensures forward_event { ForwardIsAccepted }
+    ensures back_event { BackIsAccepted }
+    ensures forward { AcceptedForwardKeepsRows }
+    ensures back { AcceptedBackKeepsRows }
 {}
 
 /// Rows open one state, an event leads to one state, and a run goes on by an event.
@@ -56,7 +65,7 @@ pub fn computed_rows_serve()
     ensures taken { TakenMeetTheConditions }
     ensures forward_rows { ForwardRowsMeetTheConditions }
     ensures elimination { EliminationServes }
+    ensures states { StatesAreThere }
     ensures substitution { SubstitutionServes }
     ensures more_below { MoreBelowServes }
-    ensures states { StatesAreThere }
 {}

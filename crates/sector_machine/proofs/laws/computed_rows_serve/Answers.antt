@@ -1,5 +1,6 @@
 -- What is computed from the rows of a task is an event.
 use Rattle.sector_machine.proofs.Serving.{are_below, has_all_shown, substitution_serves}
+use Rattle.sector_machine.proofs.ForwardEvents.{elimination_accepted}
 use Rattle.sector_machine.proofs.States.{forward_state}
 use Rattle.sector_machine.specs.Tasks.{below_of}
 use Rattle.sector_machine.proofs.laws.computed_rows_serve.Goals as goal
@@ -11,7 +12,7 @@ pub returns-clause-forward_rows : goal.returns-clause-forward_rows
 returns-clause-forward_rows c p order equations unit state holds may = (holds.forward unit, are_below p order equations unit state holds may)
 
 pub returns-clause-elimination : goal.returns-clause-elimination
-returns-clause-elimination c p order equations unit rows rest before after holds may elimination change =
+returns-clause-elimination c p order unit rows rest before after may elimination change =
     record { may = may; elimination = elimination; change = change }
 
 pub returns-clause-substitution : goal.returns-clause-substitution
@@ -24,4 +25,7 @@ returns-clause-more_below c p order equations unit below rows before after holds
     substitution_serves p order equations unit before holds below rows after may all substitution change
 
 pub returns-clause-states : goal.returns-clause-states
-returns-clause-states c p order equations unit rows rest before holds may elimination = forward_state p order equations unit rows rest before holds elimination
+returns-clause-states c p order equations unit rows rest before holds may elimination =
+    let accepted = elimination_accepted p order unit rows rest before may elimination in
+    let after = forward_state p order equations unit rows rest before holds accepted in
+    (after.0, record { may = may; elimination = elimination; change = after.1 })
