@@ -14,3 +14,4 @@ pub mod Serving
 pub mod States
 pub mod Tasks
 pub mod Following
+pub mod Counts

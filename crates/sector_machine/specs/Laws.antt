@@ -1,5 +1,5 @@
 -- The laws of the machine of units, each the contract of a function of `laws`.
-use Rattle.std.specs.Prelude.{◌≡◌, ◌≢◌, ◌↔◌, ◌⊎◌, true, ℕ, List, [], ◌∷◌, ◌++◌, All, Contains}
+use Rattle.std.specs.Prelude.{◌≡◌, ◌≢◌, ◌↔◌, ◌⊎◌, true, ℕ, ◌+◌, ◌*◌, ◌≤◌, List, [], ◌∷◌, ◌++◌, length, All, Contains}
 use Rattle.integral_index.specs.declared.Order.{Order}
 use Rattle.integral_index.specs.declared.Unit.{Unit}
 use Rattle.integral_index.specs.Integral.{Integral}
@@ -10,7 +10,7 @@ use Rattle.sector_forward.specs.Elimination.{IsTaken, IsElimination}
 use Rattle.back_substitute.specs.Substitution.{AreRules, AreBelow, IsSubstitution}
 use Rattle.back_substitute.specs.Laws.{HasAllShown}
 use Rattle.sector_machine.specs.State.{State, Has, HasNone, rows_at, IsAmong, has_greatest_in}
-use Rattle.sector_machine.specs.Machine.{Opens, back_rows, HasGreatestIn, MayForward, MayBack, IsAfterForward, IsAfterBack, IsForward, IsBack, Event, unit_of_event, Leads, IsRun, IsDone}
+use Rattle.sector_machine.specs.Machine.{Opens, back_rows, HasGreatestIn, MayForward, MayBack, IsAfterForward, IsAfterBack, IsForward, IsBack, Event, unit_of_event, Leads, IsRun, IsDone, forward_count, back_count}
 use Rattle.sector_machine.specs.Tasks.{below_of, KeepsTask, IsTableOf}
 use Rattle.sector_machine.specs.Accepted.{IsAcceptedForward, IsAcceptedBack}
 use Rattle.sector_machine.specs.Invariant.{HoldsOfRows, Holds}
@@ -135,6 +135,36 @@ abbrev pub DoneIsTheEnd : Type 0
 DoneIsTheEnd =
     (p : ℕ) (order : Order) (equations : List Row) (unit : Unit) (state : State)
     → HoldsOfRows p order equations state → IsDone state → ¬ (MayForward order unit state) × ¬ (MayBack unit state)
+
+-- ---- how many events there are
+
+-- a forward event gives one unit more its forward rows, a back event one its back rows; and so do rows of other events
+abbrev pub ForwardIsCounted : Type 0
+ForwardIsCounted =
+    (p : ℕ) (order : Order) (equations : List Row) (unit : Unit) (rows rest : List Row) (before after : State)
+    → HoldsOfRows p order equations before → MayForward order unit before → IsAfterForward order unit rows rest before after
+    → (forward_count after ≡ forward_count before + 1) × (back_count after ≡ back_count before)
+
+abbrev pub BackIsCounted : Type 0
+BackIsCounted =
+    (p : ℕ) (order : Order) (equations : List Row) (unit : Unit) (rows : List Row) (before after : State)
+    → HoldsOfRows p order equations before → MayBack unit before → IsAfterBack unit rows before after
+    → (forward_count after ≡ forward_count before) × (back_count after ≡ back_count before + 1)
+
+-- no unit has back rows without forward rows, and a state is done where as many units have back rows as there are
+abbrev pub CountsAreBounded : Type 0
+CountsAreBounded =
+    (p : ℕ) (order : Order) (equations : List Row) (state : State) → HoldsOfRows p order equations state
+    → (back_count state ≤ forward_count state) × (forward_count state ≤ length state.units)
+
+abbrev pub DoneIsCounted : Type 0
+DoneIsCounted = (state : State) → IsDone state ↔ (back_count state ≡ length state.units)
+
+-- a run has two events for each unit at most
+abbrev pub RunsAreShort : Type 0
+RunsAreShort =
+    (p : ℕ) (order : Order) (equations : List Row) (events : List Event) (state : State) → IsRun p order equations events state
+    → (length events ≡ forward_count state + back_count state) × (length events ≤ 2 * length state.units)
 
 -- ---- what is computed serves
 

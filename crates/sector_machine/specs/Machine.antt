@@ -1,7 +1,7 @@
 -- The machine of units: from which states which events lead to which.
 -- Source: Laporta, hep-ph/0102033, and Kira, arXiv:1705.05610, which eliminate sector by sector and insert the relations of
 -- lesser sectors into those of a greater one; that units wait for each other only as far as their rows ask is the project's own.
-use Rattle.std.specs.Prelude.{◌≡◌, ◌≢◌, List, [], ◌∷◌, ◌++◌, ℕ, length, All, AllPairs, Contains, filter}
+use Rattle.std.specs.Prelude.{◌≡◌, ◌≢◌, List, [], ◌∷◌, ◌++◌, ℕ, length, All, AllPairs, Contains, filter, count_by}
 use Rattle.std.specs.FinMap as map
 use Rattle.std.specs.declared.cmp.Ordering.TheVariants.{Less}
 use Rattle.integral_index.specs.declared.Order.{Order}
@@ -116,3 +116,11 @@ IsRun p order equations events state = (opening : State) × Opens p order equati
 -- each unit has back rows
 abbrev pub IsDone : State → Type 0
 IsDone state = All (Has state.back) state.units
+
+-- how many units have forward rows
+abbrev pub forward_count : State → ℕ
+forward_count state = count_by (λ unit. map.contains_key state.forward unit) state.units
+
+-- how many units have back rows
+abbrev pub back_count : State → ℕ
+back_count state = count_by (λ unit. map.contains_key state.back unit) state.units

@@ -1,6 +1,6 @@
 //! The laws of the machine of units: each is the contract of a function that does nothing.
 
-ghost use Rattle.sector_machine.specs.Laws.{OpeningHolds, EventsKeepHolds, RunsHold, ForwardIsAccepted, BackIsAccepted, AcceptedForwardKeepsRows, AcceptedBackKeepsRows, RunsGoOn, OneOpening, OneStateAfter, DoneIsReduced, HoldsDoneIsReduced, WaitingShowsNoEliminatedUnit, BackRowsShowDoneUnits, TakenShowTheUnit, GroupedByGreatest, TasksStay, EventsFollowEachOther, SomethingIsReady, DoneIsTheEnd, TakenMeetTheConditions, ForwardRowsMeetTheConditions, EliminationServes, SubstitutionServes, MoreBelowServes, StatesAreThere};
+ghost use Rattle.sector_machine.specs.Laws.{OpeningHolds, EventsKeepHolds, RunsHold, ForwardIsAccepted, BackIsAccepted, AcceptedForwardKeepsRows, AcceptedBackKeepsRows, RunsGoOn, OneOpening, OneStateAfter, DoneIsReduced, HoldsDoneIsReduced, WaitingShowsNoEliminatedUnit, BackRowsShowDoneUnits, TakenShowTheUnit, GroupedByGreatest, TasksStay, EventsFollowEachOther, SomethingIsReady, DoneIsTheEnd, ForwardIsCounted, BackIsCounted, CountsAreBounded, DoneIsCounted, RunsAreShort, TakenMeetTheConditions, ForwardRowsMeetTheConditions, EliminationServes, SubstitutionServes, MoreBelowServes, StatesAreThere};
 
 /// What holds of an opening, and so of each state that a run reaches, since every event keeps it.
 pub fn events_keep_the_invariant()
@@ -57,6 +57,16 @@ pub fn events_commute()
 pub fn something_is_ready()
     ensures ready { SomethingIsReady }
     ensures done { DoneIsTheEnd }
+{}
+
+/// Each event gives one unit more its forward rows or its back rows, so a run has two events for each
+/// unit at most, and a state is done where all units are counted.
+pub fn events_are_counted()
+    ensures forward { ForwardIsCounted }
+    ensures back { BackIsCounted }
+    ensures bounds { CountsAreBounded }
+    ensures done { DoneIsCounted }
+    ensures run { RunsAreShort }
 {}
 
 /// The rows of a task meet the conditions of the elimination and of the back substitution, and what
