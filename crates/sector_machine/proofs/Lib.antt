@@ -15,3 +15,4 @@ pub mod States
 pub mod Tasks
 pub mod Following
 pub mod Counts
+pub mod Tables

@@ -82,6 +82,17 @@ HoldsDoneIsReduced =
     (p : ℕ) (order : Order) (equations : List Row) (state : State) (table : List Row)
     → Holds p order equations state → IsDone state → IsTableOf order state table → IsReduced p order equations table
 
+-- the back rows of a state can be put in ascending order
+abbrev pub TablesAreThere : Type 0
+TablesAreThere =
+    (p : ℕ) (order : Order) (equations : List Row) (state : State) → HoldsOfRows p order equations state → (table : List Row) × IsTableOf order state table
+
+-- and in one way only
+abbrev pub OneTable : Type 0
+OneTable =
+    (p : ℕ) (order : Order) (equations : List Row) (state : State) (table other : List Row)
+    → HoldsOfRows p order equations state → IsTableOf order state table → IsTableOf order state other → table ≡ other
+
 -- ---- what rows show
 
 -- no waiting row shows an integral of a unit that has forward rows

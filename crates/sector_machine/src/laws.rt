@@ -1,6 +1,6 @@
 //! The laws of the machine of units: each is the contract of a function that does nothing.
 
-ghost use Rattle.sector_machine.specs.Laws.{OpeningHolds, EventsKeepHolds, RunsHold, ForwardIsAccepted, BackIsAccepted, AcceptedForwardKeepsRows, AcceptedBackKeepsRows, RunsGoOn, OneOpening, OneStateAfter, DoneIsReduced, HoldsDoneIsReduced, WaitingShowsNoEliminatedUnit, BackRowsShowDoneUnits, TakenShowTheUnit, GroupedByGreatest, TasksStay, EventsFollowEachOther, SomethingIsReady, DoneIsTheEnd, ForwardIsCounted, BackIsCounted, CountsAreBounded, DoneIsCounted, RunsAreShort, TakenMeetTheConditions, ForwardRowsMeetTheConditions, EliminationServes, SubstitutionServes, MoreBelowServes, StatesAreThere};
+ghost use Rattle.sector_machine.specs.Laws.{OpeningHolds, EventsKeepHolds, RunsHold, ForwardIsAccepted, BackIsAccepted, AcceptedForwardKeepsRows, AcceptedBackKeepsRows, RunsGoOn, OneOpening, OneStateAfter, DoneIsReduced, HoldsDoneIsReduced, TablesAreThere, OneTable, WaitingShowsNoEliminatedUnit, BackRowsShowDoneUnits, TakenShowTheUnit, GroupedByGreatest, TasksStay, EventsFollowEachOther, SomethingIsReady, DoneIsTheEnd, ForwardIsCounted, BackIsCounted, CountsAreBounded, DoneIsCounted, RunsAreShort, TakenMeetTheConditions, ForwardRowsMeetTheConditions, EliminationServes, SubstitutionServes, MoreBelowServes, StatesAreThere};
 
 /// What holds of an opening, and so of each state that a run reaches, since every event keeps it.
 pub fn events_keep_the_invariant()
@@ -30,6 +30,12 @@ pub fn runs_go_on()
 pub fn done_is_reduced()
     ensures run { DoneIsReduced }
     ensures state { HoldsDoneIsReduced }
+{}
+
+/// The back rows of a state stand in ascending order in one way: there is a table, and only one.
+pub fn back_rows_are_a_table()
+    ensures there { TablesAreThere }
+    ensures only { OneTable }
 {}
 
 /// No waiting row shows an integral of a unit that has forward rows, and a back row shows only
