@@ -114,7 +114,7 @@ TakenShowTheUnit =
     → HoldsOfRows p order equations state → MayForward order unit state
     → Contains (rows_at state.waiting unit) row ↔ (IsAmong state.waiting row × ((x : Integral) × Shows row x × (unit_of x ≡ unit)))
 
--- the test by which waiting rows are grouped
+-- the test by which waiting rows are grouped is true of just the rows with their greatest integral in the unit
 abbrev pub GroupedByGreatest : Type 0
 GroupedByGreatest = (p : ℕ) (order : Order) (unit : Unit) (row : Row) → IsRow p order row → (has_greatest_in order unit row ≡ true) ↔ HasGreatestIn order unit row
 
@@ -149,7 +149,7 @@ DoneIsTheEnd =
 
 -- ---- how many events there are
 
--- a forward event gives one unit more its forward rows, a back event one its back rows; and so do rows of other events
+-- a forward event gives one unit more its forward rows, and a back event its back rows, whichever rows these are
 abbrev pub ForwardIsCounted : Type 0
 ForwardIsCounted =
     (p : ℕ) (order : Order) (equations : List Row) (unit : Unit) (rows rest : List Row) (before after : State)
