@@ -1,7 +1,8 @@
 -- Indices that a permutation moves.
-use Rattle.std.proofs.Common.{◌≡◌, ◌≢◌, ℕ, zero, suc, ◌+◌, ◌-◌, ◌<◌, ◌≤◌, List, length, get_or, set, Option, Some, unwrap_or, refl, sym, ap, subst, ◌∙◌, arith, ℤ, pos}
+use Rattle.std.proofs.Common.{◌≡◌, ◌≢◌, ℕ, zero, suc, ◌+◌, ◌-◌, ◌<◌, ◌≤◌, List, length, get_or, set, Option, Some, unwrap_or, refl, sym, ap, subst, ◌∙◌, arith, ℤ, pos, negsuc, to_z, of_z, w8}
 use Rattle.std.specs.Prelude.{All}
 use Rattle.std.specs.List.{slice_get}
+use Rattle.std.proofs.lemmas.Int.{ints}
 use Rattle.std.proofs.lemmas.List.{get_or-set_same, get_or-set_other, get_or_default, length-set, same_lists}
 use Rattle.std.proofs.lemmas.Option.{slice_get-get_or, unwrap_or-slice_get}
 use Rattle.integral_index.specs.Integral.{IsIndex}
@@ -21,6 +22,11 @@ one_moved places indices moved other h m o =
     let same : slice_get moved k ≡ slice_get other k =
     ap (slice_get moved) (sym place) ∙ m.at_place r.number r.from_1 r.within ∙ sym (o.at_place r.number r.from_1 r.within) ∙ ap (slice_get other) place in
     sym (unwrap_or-slice_get moved k d) ∙ ap (λ (o : Option ℤ). unwrap_or o d) same ∙ unwrap_or-slice_get other k d)
+
+-- an index is read as it is
+pub as_it_is : (z : ℤ) → IsIndex z → to_z w8 (of_z w8 z) ≡ z
+as_it_is (pos n) h = omega (arith, ints, h.0)
+as_it_is (negsuc n) h = omega (arith, ints, h.1)
 
 -- the first n indices were written at their places
 pub record AreWritten (n : ℕ) (places : List ℕ) (indices moved : List ℤ) : Type 0 where

@@ -40,6 +40,8 @@ pub fn check(
         (map (image_of (length images.now) point.now images.now) denominators.now)
         (map (form_of (length images.now) point.now) denominators.now)) }
 {
+    // A modulus is above 1, so independent forms differ.
+    let _p = modulus.value();
     let forms = forms(alloc, images.len() as u32, denominators, point, modulus)?;
     let image_forms = image_forms(alloc, images, denominators, point, modulus)?;
     let places = places_of(alloc, &image_forms, &forms)?;

@@ -20,6 +20,7 @@ pub(crate) fn moved(
     integral: &Integral,
 ) -> Result<Integral, OutOfMemory>
     requires { length integral.now.indices ≡ length symmetry.now }
+    ensures permutation { IsPermutationOf (length symmetry.now) symmetry.now }
     ensures family { IfOk result (λ x. x.family ≡ integral.now.family) }
     ensures moved { IfOk result (λ x. IsMoved symmetry.now integral.now.indices x.indices) }
 {
