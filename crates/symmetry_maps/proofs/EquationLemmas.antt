@@ -101,6 +101,7 @@ fixed_empty p places seed zeros order row large fixed h x =
   where
     first : Term
     first = record { integral = seed; coefficient = 1 }
+
     second : Term
     second = record { integral = seed; coefficient = opposite_of p 1 }
 

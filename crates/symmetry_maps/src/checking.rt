@@ -15,11 +15,13 @@ use out_of_memory::OutOfMemory;
 use propagators::{Denominator, Form, form, image};
 use std::alloc::Global;
 
-/// The symmetry that replaces each loop momentum by its image: the one permutation for which the image of
-/// each denominator is the form of the denominator to which it sends it, modulo p at the point.
+/// The symmetry that replaces each loop momentum by its image: the one permutation σ for which the image of
+/// each denominator D_j is the form D_σ(j), modulo p at the point. `NotAPermutation` exactly where there is
+/// none, with the first denominator at fault. Source: Kira, arXiv:1705.05610.
 ///
-/// The denominators are a basis, so their forms differ, and no image is the form of two of them. A map that
-/// can be undone sends no two denominators to one; a map that loses a loop momentum can.
+/// The denominators are those of a basis, which are independent: so their forms differ, and no image is the
+/// form of two of them. A map that can be undone sends no two denominators to one, but one that loses a
+/// loop momentum may.
 pub fn check(
     alloc: Global,
     images: &[Momentum],

@@ -26,7 +26,11 @@ pub(crate) fn moved(
 {
     let length = integral.indices().len();
     let mut indices = [0; MOST];
-    move_indices(symmetry.places(), integral.indices(), &mut indices[..length]);
+    move_indices(
+        symmetry.places(),
+        integral.indices(),
+        &mut indices[..length],
+    );
     Integral::new(alloc, integral.family(), &indices[..length])
 }
 
