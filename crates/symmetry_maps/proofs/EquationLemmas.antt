@@ -1,6 +1,6 @@
 -- The row of the two terms of an equation.
-use Rattle.std.proofs.Common.{◌≡◌, ◌≢◌, ℕ, zero, suc, ◌+◌, ◌-◌, ◌%◌, ◌<◌, ◌≤◌, Bool, true, false, List, [], ◌∷◌, length, refl, sym, ap, subst, ◌∙◌, arith, add-zero, zero-add, ℤ, Result, Ok, Err, OnOk}
-use Rattle.std.proofs.Math.Nat.{add-mod-mod, mod-add-mod, mod-eq_of_lt, mod_self}
+use Rattle.std.proofs.Common.{◌≡◌, ◌≢◌, ℕ, ◌+◌, ◌-◌, ◌%◌, ◌<◌, Bool, true, false, List, [], ◌∷◌, length, refl, sym, ap, ◌∙◌, arith, add-zero, ℤ, Result, Ok, Err, OnOk}
+use Rattle.std.proofs.Math.Nat.{mod-add-mod, mod-eq_of_lt, mod_self}
 use Rattle.field_word.specs.Residues.{opposite_of}
 use Rattle.integral_index.specs.declared.Order.{Order}
 use Rattle.integral_index.specs.Integral.{Integral, sector_of}

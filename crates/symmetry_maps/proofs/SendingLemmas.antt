@@ -1,19 +1,17 @@
 -- To which denominators the images are sent.
-use Rattle.std.proofs.Common.{◌≡◌, ◌≢◌, ℕ, zero, suc, ◌+◌, ◌-◌, ◌<◌, ◌≤◌, ◌⊎◌, inl, inr, List, [], ◌∷◌, ◌++◌, length, get_or, Option, Some, refl, sym, ap, subst, ◌∙◌, arith, length-append}
-use Rattle.std.specs.Prelude.{All, Contains}
+use Rattle.std.proofs.Common.{◌≡◌, ◌≢◌, ℕ, suc, ◌+◌, ◌-◌, ◌<◌, ◌≤◌, inl, inr, List, [], ◌∷◌, ◌++◌, length, get_or, Some, sym, ap, subst, ◌∙◌, arith, length-append}
+use Rattle.std.specs.Prelude.{Contains}
 use Rattle.std.specs.List.{slice_get}
 use Rattle.std.proofs.Math.Seq.{get_or-append_seam}
 use Rattle.std.proofs.lemmas.Grind.{same_number_lists}
 use Rattle.std.proofs.lemmas.List.{get_or_append_left, get_or_default}
 use Rattle.std.proofs.lemmas.Option.{same_Some, slice_get_within}
 use Rattle.propagators.specs.Forms.{Form}
-use Rattle.propagators.specs.Combinations.{AreIndependent}
 use Rattle.propagators.specs.Sums.{entry}
 use Rattle.propagators.proofs.SumLemmas.{entry-at}
-use Rattle.symmetry_maps.specs.Permutation.{IsPermutationOf}
-use Rattle.symmetry_maps.specs.Symmetry.{IsAtFault, IsFirstAtFault, IsFormAt, IsSecond, IsSymmetry, Sends}
+use Rattle.symmetry_maps.specs.Symmetry.{IsAtFault, IsFirstAtFault, IsFormAt, IsSymmetry, Sends}
 use Rattle.symmetry_maps.specs.Laws.{FaultRefutesSymmetry, OneSymmetry}
-use Rattle.symmetry_maps.specs.Steps.{AreApart, IsFree, IsNotFree, IsTaken}
+use Rattle.symmetry_maps.specs.Steps.{AreApart, IsFree, IsNotFree}
 use Rattle.symmetry_maps.proofs.FormsApart.{apart}
 use Rattle.symmetry_maps.proofs.Reaching.{by_numbers}
 

@@ -1,6 +1,6 @@
 -- The equations of symmetries: an integral equals the one that a symmetry makes of it.
 -- Source: Kira, arXiv:1705.05610. Denominators and indices are numbered from 1.
-use Rattle.std.specs.Prelude.{◌≡◌, ℕ, ◌-◌, ◌%◌, ◌≤◌, Bool, true, false, ℤ, List, [], ◌∷◌, length}
+use Rattle.std.specs.Prelude.{◌≡◌, ℕ, ◌-◌, ◌%◌, ◌≤◌, true, false, ℤ, List, [], ◌∷◌, length}
 use Rattle.std.specs.List.{slice_get}
 use Rattle.field_word.specs.Residues.{opposite_of}
 use Rattle.integral_index.specs.Integral.{Integral, sector_of}

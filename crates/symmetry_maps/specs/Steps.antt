@@ -1,5 +1,5 @@
 -- What the steps of the check and of an equation promise each other. No public call cites this file.
-use Rattle.std.specs.Prelude.{◌≡◌, ℕ, ◌+◌, ◌%◌, ◌⊎◌, Bool, true, false, List, Some, All, Contains}
+use Rattle.std.specs.Prelude.{◌≡◌, ℕ, ◌+◌, ◌%◌, ◌⊎◌, true, false, List, Some, All, Contains}
 use Rattle.std.specs.List.{slice_get}
 use Rattle.integral_index.specs.Integral.{Integral, sector_of}
 use Rattle.integral_index.specs.ZeroSectors.{is_zero_sector}

@@ -1,5 +1,5 @@
 -- Independent forms differ.
-use Rattle.std.proofs.Common.{◌≡◌, ◌<◌, length, map, sym, subst, ◌∙◌, arith}
+use Rattle.std.proofs.Common.{length, map, sym, subst, ◌∙◌, arith}
 use Rattle.propagators.specs.Denominators.{form_of}
 use Rattle.symmetry_maps.specs.Steps.{AreApart}
 use Rattle.symmetry_maps.proofs.FormsApart.{apart}

@@ -1,10 +1,10 @@
 -- One image more is sent to a place, or is the first at fault.
-use Rattle.std.proofs.Common.{◌≡◌, ◌<◌, ◌+◌, ℕ, List, length, refl, sym, ap, subst, ◌∙◌, arith, Some}
+use Rattle.std.proofs.Common.{◌≡◌, ◌+◌, ℕ, List, length, refl, subst, arith, Some}
 use Rattle.std.specs.List.{slice_get}
 use Rattle.std.proofs.lemmas.Option.{slice_get_read}
 use Rattle.symmetry_maps.specs.Symmetry.{IsFirstAtFault}
 use Rattle.symmetry_maps.specs.Steps.{IsFree, IsNotFree}
-use Rattle.symmetry_maps.proofs.SendingLemmas.{AreSent, AreSent-more, AreSent-none, IsSymmetry-sent, first_fault}
+use Rattle.symmetry_maps.proofs.SendingLemmas.{AreSent-more, IsSymmetry-sent, first_fault}
 use Rattle.symmetry_maps.proofs.checking.places_of.Goals as goal
 
 pub loop-image-preserved : goal.loop-image-preserved

@@ -1,5 +1,5 @@
 -- A term of a zero sector is left out, and any other is added.
-use Rattle.std.proofs.Common.{◌≡◌, ◌<◌, arith, sym, ap, ◌∙◌, Result, Ok, Err, OnOk, false, true}
+use Rattle.std.proofs.Common.{sym, ap, ◌∙◌}
 use Rattle.integral_index.specs.declared.Unit.{Unit}
 use Rattle.integral_index.specs.ZeroSectors.{is_zero_sector}
 use Rattle.symmetry_maps.proofs.EquationLemmas.{IsWithTerm-added, IsWithTerm-zero, on_ok_both}

@@ -1,5 +1,5 @@
 -- The term of the seed and that of its moved indices.
-use Rattle.std.proofs.Common.{◌≡◌, ◌<◌, ℕ, length, sym, ap, subst, ◌∙◌, arith}
+use Rattle.std.proofs.Common.{◌≡◌, ◌<◌, ℕ, sym, subst, ◌∙◌, arith}
 use Rattle.integral_index.specs.declared.Order.{Order}
 use Rattle.sparse_row.specs.Row.{IsRow}
 use Rattle.symmetry_maps.specs.Permutation.{IsPermutationOf}

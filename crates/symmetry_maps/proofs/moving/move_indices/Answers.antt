@@ -1,5 +1,5 @@
 -- One index more is written at its place.
-use Rattle.std.proofs.Common.{◌≡◌, ◌<◌, ◌+◌, ◌-◌, List, length, get_or, set, sym, ap, subst, ◌∙◌, arith, ℤ, pos}
+use Rattle.std.proofs.Common.{◌<◌, ◌+◌, ◌-◌, length, get_or, set, sym, subst, arith, ℤ, pos}
 use Rattle.symmetry_maps.proofs.MovedLemmas.{AreWritten, AreWritten-more, IsMoved-written, as_it_is}
 use Rattle.symmetry_maps.proofs.moving.move_indices.Goals as goal
 
