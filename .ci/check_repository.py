@@ -51,7 +51,8 @@ def check_crates(names):
 
 
 def has_public_call(folder):
-    sources = (folder / "src").rglob("*.rt")
+    """Whether the crate offers a call that does something: laws do nothing, so no edit of theirs can be wrong."""
+    sources = [source for source in (folder / "src").rglob("*.rt") if source.name != "laws.rt"]
     return any("pub fn " in source.read_text() for source in sources)
 
 
