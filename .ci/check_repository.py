@@ -76,16 +76,6 @@ def check_examples():
             fail(f"{one.relative_to(TOP)}: differs from {other.relative_to(TOP)}")
 
 
-def check_example_tables(program):
-    """The built program prints the expected table of each example."""
-    for folder in sorted((TOP / "examples").iterdir()):
-        expected = folder / "expected"
-        if expected.is_file():
-            run = subprocess.run([program, "jobs.yaml"], cwd=folder, capture_output=True)
-            if run.returncode != 0 or run.stdout != expected.read_bytes():
-                fail(f"examples/{folder.name}: the table differs from the expected one")
-
-
 def edited(text, first, count, with_text):
     """The text with so many lines from this one on, counted from 1, replaced."""
     lines = text.split("\n")
@@ -121,9 +111,8 @@ def check_refusals(program):
 def check_program():
     program = TOP / "crates" / "kira" / "out" / "kira"
     if not program.is_file():
-        print("crates/kira/out/kira isn't built: the examples were not run")
+        print("crates/kira/out/kira isn't built: the refused files were not tried")
         return
-    check_example_tables(program)
     check_refusals(program)
 
 
