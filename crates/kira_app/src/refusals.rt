@@ -1002,26 +1002,35 @@ fn long_list(alloc: Global, head: &str, item: &str, count: usize) -> Result<Stri
 }
 
 #[test]
-fn lists_that_are_too_long(rt: HostRuntime) -> Result<(), Fail> {
+fn long_lists_of_the_kinematics(rt: HostRuntime) -> Result<(), Fail> {
     let alloc = rt.alloc();
-    let with = long_list(alloc, "  kinematic_invariants: [", "[s, 2]", 33)?;
-    let text = edited(alloc, KINEMATICS, 5, 3, with.as_str())?;
-    let texts = Texts {
-        kinematics: text.as_str(),
-        ..ACCEPTED
-    };
-    let ended = call(alloc, texts, "jobs.yaml")?;
-    assert!(rt; refuses(alloc, &ended, "config/kinematics.yaml:5: out of range", "")?);
+    for list in &LONG_KINEMATICS_LISTS {
+        let (line, lines, head, item, count) = *list;
+        let with = long_list(alloc, head, item, count)?;
+        let text = edited(alloc, KINEMATICS, line, lines, with.as_str())?;
+        let texts = Texts {
+            kinematics: text.as_str(),
+            ..ACCEPTED
+        };
+        let ended = call(alloc, texts, "jobs.yaml")?;
+        let place = format!(in alloc; "config/kinematics.yaml:{line}: ")?;
+        assert!(rt;
+            refuses(alloc, &ended, place.as_str(), "out of range")?,
+            "{head}"
+        );
+    }
+    Ok(())
+}
 
-    let with = long_list(alloc, "  scalarproduct_rules: [", "[[p1, p1], s]", 65)?;
-    let text = edited(alloc, KINEMATICS, 8, 2, with.as_str())?;
-    let texts = Texts {
-        kinematics: text.as_str(),
-        ..ACCEPTED
-    };
-    let ended = call(alloc, texts, "jobs.yaml")?;
-    assert!(rt; refuses(alloc, &ended, "config/kinematics.yaml:8: out of range", "")?);
+// 33 invariants, 65 rules.
+const LONG_KINEMATICS_LISTS: [(usize, usize, &str, &str, usize); 2] = [
+    (5, 3, "  kinematic_invariants: [", "[s, 2]", 33),
+    (8, 2, "  scalarproduct_rules: [", "[[p1, p1], s]", 65),
+];
 
+#[test]
+fn long_lists_of_the_families(rt: HostRuntime) -> Result<(), Fail> {
+    let alloc = rt.alloc();
     for list in &LONG_FAMILY_LISTS {
         let (line, lines, head, item, count) = *list;
         let with = long_list(alloc, head, item, count)?;
@@ -1037,6 +1046,20 @@ fn lists_that_are_too_long(rt: HostRuntime) -> Result<(), Fail> {
             "{head}"
         );
     }
+    Ok(())
+}
+
+// 17 families, 257 top level sectors, 1025 zero sectors, 65 symmetries.
+const LONG_FAMILY_LISTS: [(usize, usize, &str, &str, usize); 4] = [
+    (1, 15, "integralfamilies: [", "{}", 17),
+    (4, 1, "    top_level_sectors: [", "3", 257),
+    (8, 1, "    zero_sectors: [", "1", 1025),
+    (9, 2, "    symmetries: [", "{}", 65),
+];
+
+#[test]
+fn long_lists_of_the_jobs(rt: HostRuntime) -> Result<(), Fail> {
+    let alloc = rt.alloc();
     for list in &LONG_JOB_LISTS {
         let (line, lines, head, item, count) = *list;
         let with = long_list(alloc, head, item, count)?;
@@ -1054,14 +1077,6 @@ fn lists_that_are_too_long(rt: HostRuntime) -> Result<(), Fail> {
     }
     Ok(())
 }
-
-// 17 families, 257 top level sectors, 1025 zero sectors, 65 symmetries.
-const LONG_FAMILY_LISTS: [(usize, usize, &str, &str, usize); 4] = [
-    (1, 15, "integralfamilies: [", "{}", 17),
-    (4, 1, "    top_level_sectors: [", "3", 257),
-    (8, 1, "    zero_sectors: [", "1", 1025),
-    (9, 2, "    symmetries: [", "{}", 65),
-];
 
 // 257 specs in each place, 17 list files.
 const LONG_JOB_LISTS: [(usize, usize, &str, &str, usize); 3] = [
