@@ -83,10 +83,15 @@ def edited(text, first, count, with_text):
     return "\n".join(lines)
 
 
+def ends(program, folder, words):
+    """The exit status and what the program writes with these words behind the job file."""
+    run = subprocess.run([program, "jobs.yaml", *words], cwd=folder, capture_output=True)
+    return run.returncode, run.stdout, run.stderr
+
+
 def refuses(program, folder, message):
     """The program ends with status 3, prints nothing, and complains by this line."""
-    run = subprocess.run([program, "jobs.yaml"], cwd=folder, capture_output=True)
-    return (run.returncode, run.stdout, run.stderr) == (3, b"", f"kira: {message}\n".encode())
+    return ends(program, folder, []) == (3, b"", f"kira: {message}\n".encode())
 
 
 def check_refusals(program):
@@ -108,12 +113,30 @@ def check_refusals(program):
                 fail(f"examples/refused: {name} with a byte too many isn't refused")
 
 
+def check_divisors(program):
+    """Modulo 15 the value of an invariant, that of a rule and a basis each need an inverse that isn't there."""
+    source = TOP / "examples" / "bubble_two_masses"
+    wanted = (5, b"", b"kira: the prime is divisible by 3\n")
+    sound = ["prime=15", "d=7", "s=1", "m1=2", "m2=4", "m3=0"]
+    if ends(program, source, ["prime=15", "m1=1/3"]) != wanted:
+        fail("examples/bubble_two_masses: the divisor of 15 in an invariant isn't told")
+    for name, old, new in (("kinematics", "[p1,p1], s]", "[p1,p1], s/3]"), ("integralfamilies", '"k1+p1"', '"k1+3*p1"')):
+        with tempfile.TemporaryDirectory() as place:
+            folder = pathlib.Path(shutil.copytree(source, place, dirs_exist_ok=True))
+            file = folder / "config" / f"{name}.yaml"
+            text = file.read_text()
+            file.write_text(text.replace(old, new))
+            if old not in text or ends(program, folder, sound) != wanted:
+                fail(f"examples/bubble_two_masses: the divisor of 15 with {new} isn't told")
+
+
 def check_program():
     program = TOP / "crates" / "kira" / "out" / "kira"
     if not program.is_file():
         print("crates/kira/out/kira isn't built: the refused files were not tried")
         return
     check_refusals(program)
+    check_divisors(program)
 
 
 check_handles()
