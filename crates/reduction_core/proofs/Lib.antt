@@ -6,3 +6,5 @@ pub mod Differences
 pub mod Masters
 pub mod TableRows
 pub mod CheckLemmas
+pub mod SlotLemmas
+pub mod OpeningLemmas

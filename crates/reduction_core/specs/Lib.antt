@@ -3,3 +3,7 @@ pub mod KeptTable
 pub mod Laws
 pub mod NormalForm
 pub mod Table
+pub mod Slots
+pub mod Board
+pub mod KeptBoard
+pub mod Opening

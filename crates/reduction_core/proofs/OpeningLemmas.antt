@@ -1,0 +1,154 @@
+-- The units of rows, and the opening.
+use Rattle.std.proofs.Common.{◌≡◌, ◌≢◌, ℕ, ◌+◌, ◌<◌, ◌≤◌, None, Some, unwrap_or, List, [], ◌∷◌, ◌++◌, length, get_or, take, All, AllPairs, Contains, filter, refl, sym, ap, subst, ◌∙◌, ◌⊎◌, inl, inr, arith}
+use Rattle.std.specs.FinMap as finite
+use Rattle.std.specs.List.{AllZip, insert}
+use Rattle.std.specs.List.Sorted.{IsSorted, IsNonDecreasingBy, IsPartitionPoint}
+use Rattle.std.specs.Ordering.{is_lt, ordering_index, ordering_reverse}
+use Rattle.std.specs.declared.cmp.Ordering.TheVariants.{Less, Equal, Greater}
+use Rattle.std.proofs.lemmas.Bool.{cases_lt, cases_order}
+use Rattle.std.proofs.lemmas.List.{take_more}
+use Rattle.std.proofs.lemmas.List.Edits.{length-insert, get_or-insert_below, get_or-insert_at, get_or-insert_above}
+use Rattle.std.proofs.lemmas.List.Elements.{Contains-get_or, Contains-append_left, Contains-append_cases, Contains-push}
+use Rattle.std.proofs.lemmas.List.Sorted.{IsPermutation-insert, IsPermutation-sym, Contains-permutation, searchable_from_sorted}
+use Rattle.integral_index.specs.declared.Order.{Order}
+use Rattle.integral_index.specs.declared.Unit.{Unit}
+use Rattle.integral_index.specs.Integral.{Integral}
+use Rattle.integral_index.specs.Order.{unit_of, unit_compare}
+use Rattle.integral_index.proofs.Orders.{unit_compare-total, unit_compare-IsAntisymmetric}
+use Rattle.sparse_row.specs.declared.Term.{Term}
+use Rattle.sparse_row.specs.Row.{Row, coefficient, Shows, IsRow, IsGreatest}
+use Rattle.sparse_row.specs.Terms.{IsTermList, total_at}
+use Rattle.sparse_row.proofs.RowValues.{total_at-place}
+use Rattle.sector_forward.specs.Elimination.{IsShownBySome}
+use Rattle.sector_forward.proofs.Shown.{term_of_shown}
+use Rattle.sector_forward.proofs.Members.{Contains-cons_cases, Contains-here, Contains-there}
+use Rattle.sector_forward.proofs.StepLemmas.{same_at}
+use Rattle.sector_machine.specs.State.{rows_at, unless_empty, has_greatest_in}
+use Rattle.sector_machine.specs.Machine.{Ascends, AreUnitsOf, Opens}
+use Rattle.sector_machine.proofs.Lists.{Contains-none, none_kept}
+use Rattle.sector_machine.proofs.Units.{rows_unless_empty}
+use Rattle.sector_machine.proofs.Greatest.{HasGreatestIn-from_test}
+use Rattle.reduction_core.specs.declared.slots.Slot.{Slot}
+use Rattle.reduction_core.specs.Slots.{by_unit, units_of, state_of, waiting_of, forward_of, back_of, IsJoined, HaveListedUnits}
+use Rattle.reduction_core.specs.Opening.{ShowsUnit, AreListed, IsEmptySlot}
+use Rattle.reduction_core.proofs.SlotLemmas.{get_listed, get_unlisted, listed_or_not, slot_of_unit, joined_units, zip_units}
+
+-- ---- one unit more
+
+AllPairs-insert : {X : Type 0} (R : X → X → Type 0) (xs : List X) (place : ℕ) (y : X) → place ≤ length xs → AllPairs R xs → ((k : ℕ) (d : X) → k < place → R (get_or xs k d) y) → ((k : ℕ) (d : X) → place ≤ k → k < length xs → R y (get_or xs k d)) → AllPairs R (insert xs place y)
+AllPairs-insert {X} R xs place y within pairs before after i j d l in_j =
+    let len = length-insert xs place y within in
+    let below : (k : ℕ) → k < place → get_or (insert xs place y) k d ≡ get_or xs k d = λ k h. get_or-insert_below xs place y d k h within in
+    let here : get_or (insert xs place y) place d ≡ y = get_or-insert_at xs place y d within in
+    let above : (k : ℕ) → place < k → get_or (insert xs place y) k d ≡ get_or xs (k - 1) d =
+    λ k h. let e : k ≡ (k - 1) + 1 = omega arith in ap (λ n. get_or (insert xs place y) n d) e ∙ get_or-insert_above xs place y d (k - 1) (omega arith) within in
+    let both : (a b : X) → get_or (insert xs place y) i d ≡ a → get_or (insert xs place y) j d ≡ b → R a b → R (get_or (insert xs place y) i d) (get_or (insert xs place y) j d) =
+    λ a b e f r. subst (λ u. R u (get_or (insert xs place y) j d)) (sym e) (subst (λ u. R a u) (sym f) r) in
+    elim (cases_order j place) [
+      | inl same ↦
+          both (get_or xs i d) y (below i (omega arith)) (ap (λ n. get_or (insert xs place y) n d) same ∙ here) (before i d (omega arith))
+      | inr (inl low) ↦ both (get_or xs i d) (get_or xs j d) (below i (omega arith)) (below j low) (pairs i j d l (omega arith))
+      | inr (inr high) ↦
+          elim (cases_order i place) [
+            | inl same ↦ both y (get_or xs (j - 1) d) (ap (λ n. get_or (insert xs place y) n d) same ∙ here) (above j high) (after (j - 1) d (omega arith) (omega arith))
+            | inr (inl low) ↦ both (get_or xs i d) (get_or xs (j - 1) d) (below i low) (above j high) (pairs i (j - 1) d (omega arith) (omega arith))
+            | inr (inr up) ↦ both (get_or xs (i - 1) d) (get_or xs (j - 1) d) (above i up) (above j high) (pairs (i - 1) (j - 1) d (omega arith) (omega arith))
+          ]
+    ]
+
+units_sorted : (units : List Unit) → Ascends units → IsSorted unit_compare units
+units_sorted units ascend k d low within =
+    ap is_lt ((unit_compare-total).antisymm (get_or units (k + 1) d) (get_or units k d) ∙ ap ordering_reverse (ascend k (k + 1) d (omega arith) (omega arith)))
+
+pub unit_there : (units : List Unit) (unit : Unit) (place : ℕ) → place < length units → ((d : Unit) → unit_compare (get_or units place d) unit ≡ Equal) → Ascends units → AreListed (λ other. unit ≡ other) units units
+unit_there units unit place within equal ascend =
+    let own : get_or units place unit ≡ unit = unit_compare-IsAntisymmetric (get_or units place unit) unit (equal unit) in
+    let there : Contains units unit = (place, within, own) in
+    record { ascend = ascend; kept = λ _ member. member; all = λ other same. subst (Contains units) same there; only = λ other member. inl member }
+
+pub unit_inserted : (units : List Unit) (unit : Unit) (place : ℕ) → place ≤ length units → (IsNonDecreasingBy (λ u. ordering_index (unit_compare u unit)) units → IsPartitionPoint (λ u. unit_compare u unit ≡ Less) (λ u. unit_compare u unit ≡ Greater) units place) → Ascends units → AreListed (λ other. unit ≡ other) units (insert units place unit)
+unit_inserted units unit place within parted ascend =
+    let parts = parted (searchable_from_sorted unit_compare-total (λ u. u) units unit (units_sorted units ascend)) in
+    let moved = IsPermutation-insert units place unit in
+    record {
+      ascend = AllPairs-insert (λ u v. unit_compare u v ≡ Less) units place unit within ascend
+          (λ k d before. parts.0 k d (omega arith) before)
+          (λ k d after in_k. (unit_compare-total).antisymm unit (get_or units k d) ∙ ap ordering_reverse (parts.1 k d after in_k));
+      kept = λ other member. Contains-permutation (unit ∷ units) (insert units place unit) other moved (Contains-there unit units other member);
+      all = λ other same. subst (Contains (insert units place unit)) same (Contains-permutation (unit ∷ units) (insert units place unit) unit moved (Contains-here unit units));
+      only = λ other member.
+          elim (Contains-cons_cases unit units other (Contains-permutation (insert units place unit) (unit ∷ units) other (IsPermutation-sym (unit ∷ units) (insert units place unit) moved) member)) [
+            | inl same ↦ inr same
+            | inr old ↦ inl old
+          ];
+    }
+
+-- ---- the units of a row
+
+-- one of the first n terms is of the unit
+abbrev pub IsOfTermBefore : List Term → ℕ → Unit → Type 0
+IsOfTermBefore terms n unit = (k : ℕ) × (k < n) × ((d : Term) → unit_of (get_or terms k d).integral ≡ unit)
+
+pub listed_none : (terms : List Term) (units : List Unit) → Ascends units → AreListed (IsOfTermBefore terms 0) units units
+listed_none terms units ascend = record { ascend = ascend; kept = λ _ member. member; all = λ other (k, h, is). absurd (omega arith); only = λ other member. inl member }
+
+pub listed_more : (terms : List Term) (n : ℕ) (term : Term) (unit : Unit) (units after next : List Unit) → n < length terms → term ≡ get_or terms n term → unit ≡ unit_of term.integral → AreListed (IsOfTermBefore terms n) units after → AreListed (λ other. unit ≡ other) after next → AreListed (IsOfTermBefore terms (n + 1)) units next
+listed_more terms n term unit units after next within read is before one =
+    let here : (d : Term) → unit_of (get_or terms n d).integral ≡ unit = λ d. ap (λ t. unit_of t.integral) (same_at terms n d term within ∙ sym read) ∙ sym is in
+    record {
+      ascend = one.ascend;
+      kept = λ other member. one.kept other (before.kept other member);
+      all = λ other (k, h, of_k).
+          elim (cases_lt k n) [
+            | inl old ↦ one.kept other (before.all other (k, old, of_k))
+            | inr last ↦
+                let same : n ≡ k = omega arith in
+                one.all other (sym (here term) ∙ ap (λ m. unit_of (get_or terms m term).integral) same ∙ of_k term)
+          ];
+      only = λ other member.
+          elim (one.only other member) [
+            | inl old ↦ elim (before.only other old) [ inl first ↦ inl first | inr (k, h, of_k) ↦ inr (k, omega arith, of_k) ]
+            | inr same ↦ inr (n, omega arith, λ d. here d ∙ same)
+          ];
+    }
+
+pub listed_row : (order : Order) (terms : List Term) (row : Row) (n : ℕ) (units after : List Unit) → IsTermList order terms → ((x : Integral) → coefficient row x ≡ total_at x terms) → length terms ≤ n → n ≤ length terms → AreListed (IsOfTermBefore terms n) units after → AreListed (ShowsUnit row) units after
+listed_row order terms row n units after list is low high before =
+    record {
+      ascend = before.ascend;
+      kept = before.kept;
+      all = λ other (x, shows, of_unit).
+          let found = term_of_shown x terms (λ e. shows (is x ∙ e)) in
+          before.all other (found.0, omega (arith, found.1), λ d. ap unit_of (found.2 d) ∙ of_unit);
+      only = λ other member.
+          elim (before.only other member) [
+            | inl old ↦ inl old
+            | inr (k, h, of_k) ↦
+                let d : Term = record { integral = record { family = 0; indices = [] }; coefficient = 0 } in
+                let x = (get_or terms k d).integral in
+                inr (x, λ e. list.no_zero k d (omega arith) (sym (total_at-place order terms k d (omega arith) (Descends-from_list order terms list)) ∙ sym (is x) ∙ e), of_k d)
+          ];
+    }
+
+-- ---- the units of rows
+
+pub no_units : AreUnitsOf [] []
+no_units = record { ascend = λ i j d l h. absurd (omega arith); all = λ x (row, member, shows). absurd (Contains-none row member); only = λ unit member. absurd (Contains-none unit member) }
+
+pub units_more : (rows : List Row) (n : ℕ) (row : Row) (units after : List Unit) → n < length rows → row ≡ get_or rows n row → AreUnitsOf (take n rows) units → AreListed (ShowsUnit row) units after → AreUnitsOf (take (n + 1) rows) after
+units_more rows n row units after within read are more =
+    let longer : take (n + 1) rows ≡ take n rows ++ row ∷ [] = take_more rows n row within ∙ ap (λ r. take n rows ++ r ∷ []) (sym read) in
+    subst (λ rs. AreUnitsOf rs after) (sym longer)
+    (record {
+      ascend = more.ascend;
+      all = λ x (other, member, shows).
+          elim (Contains-append_cases (take n rows) (row ∷ []) other member) [
+            | inl old ↦ more.kept (unit_of x) (are.all x (other, old, shows))
+            | inr last ↦ more.all (unit_of x) (x, subst (λ r. Shows r x) (sym (elim (Contains-cons_cases row [] other last) [ inl same ↦ same | inr later ↦ absurd (Contains-none other later) ])) shows, refl)
+          ];
+      only = λ unit member.
+          elim (more.only unit member) [
+            | inl old ↦ let found = are.only unit old in (found.0, (found.1.0, Contains-append_left (take n rows) (row ∷ []) found.1.0 found.1.1, found.1.2), found.2)
+            | inr (x, shows, of_unit) ↦ (x, (row, Contains-push (take n rows) row, shows), of_unit)
+          ];
+    })
