@@ -1,14 +1,21 @@
-//! The reduced list of a list of rows, and the normal form of an integral under it.
+//! The reduced list of a list of rows, the normal form of an integral under it, and the tasks by
+//! which it is computed unit by unit.
 #![tactic(auto)]
 
 pub mod checks;
 pub mod laws;
 mod plain;
+mod records;
+mod rows;
 mod table;
+mod task;
 
 pub use plain::reduce_plain;
+pub use records::Record;
+pub use rows::Rows;
 pub use sector_forward::ForwardFault;
 pub use table::Table;
+pub use task::{Task, Work};
 
 #[cfg(test)]
 mod tests;
