@@ -5,6 +5,7 @@ ghost use Rattle.integral_index.specs.declared.Order.{Order as OrderValue};
 ghost use Rattle.sector_forward.specs.Elimination.{IsTaken};
 ghost use Rattle.sector_forward.specs.Fault.{HasCause};
 ghost use Rattle.back_substitute.specs.Substitution.{AreRules, AreBelow};
+ghost use Rattle.reduction_core.specs.Task.{MeetsTask};
 
 use crate::records::Record;
 use crate::rows::Rows;
