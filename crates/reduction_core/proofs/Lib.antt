@@ -6,3 +6,4 @@ pub mod Differences
 pub mod Masters
 pub mod TableRows
 pub mod CheckLemmas
+pub mod Tasks

@@ -143,7 +143,7 @@ impl Task {
         steps: &mut Steps<L>,
     ) -> Result<(Task, Record), ForwardFault>
         ensures task { IfOk result (λ done. done.0 ≡ self) }
-        ensures event { IfOk result (λ done. MeetsTask self done.1) }
+        ensures event { IfOk result (λ done. MeetsTask done.0 done.1) }
         ensures cause { IfErr result (λ fault. HasCause self.modulus fault) }
         ensures steps { steps.new ≡ steps.old + step_count self.work }
     {
@@ -201,7 +201,7 @@ fn eliminated<L: Ledger>(
 ) -> Result<(Task, Record), ForwardFault>
     requires { (order : OrderValue) × All (IsTaken modulus order unit) rows.items }
     ensures task { IfOk result (λ done. done.0 ≡ record { modulus = modulus; work = Work.Forward unit rows.items }) }
-    ensures event { IfOk result (λ done. MeetsTask (record { modulus = modulus; work = Work.Forward unit rows.items }) done.1) }
+    ensures event { IfOk result (λ done. MeetsTask done.0 done.1) }
     ensures cause { IfErr result (λ fault. HasCause modulus fault) }
     ensures steps { steps.new ≡ steps.old + 1 }
 {
@@ -220,7 +220,7 @@ fn substituted(
 ) -> Result<(Task, Record), ForwardFault>
     requires { (order : OrderValue) × AreRules modulus order unit rows.items × AreBelow modulus order unit below.items }
     ensures task { IfOk result (λ done. done.0 ≡ record { modulus = modulus; work = Work.Back unit rows.items below.items }) }
-    ensures event { IfOk result (λ done. MeetsTask (record { modulus = modulus; work = Work.Back unit rows.items below.items }) done.1) }
+    ensures event { IfOk result (λ done. MeetsTask done.0 done.1) }
     ensures cause { IfErr result (λ fault. HasCause modulus fault) }
 {
     let alloc = *rows.allocator();
