@@ -1,9 +1,12 @@
 pub mod Checks
 pub mod KeptTable
+pub mod KeptTask
 pub mod Laws
 pub mod NormalForm
+pub mod Records
 pub mod Table
 pub mod Slots
 pub mod Board
 pub mod KeptBoard
 pub mod Opening
+pub mod Task

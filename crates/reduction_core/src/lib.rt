@@ -1,5 +1,5 @@
-//! The reduced list of a list of rows, the normal form of an integral under it, and the board on which
-//! a list is reduced unit by unit.
+//! The reduced list of a list of rows, the normal form of an integral under it, and the board and its
+//! tasks, by which a list is reduced unit by unit.
 #![tactic(auto)]
 
 mod board;
@@ -8,12 +8,18 @@ pub mod laws;
 mod opening;
 mod plain;
 mod slots;
+mod records;
+mod rows;
 mod table;
+mod task;
 
 pub use board::Board;
 pub use plain::reduce_plain;
+pub use records::Record;
+pub use rows::Rows;
 pub use sector_forward::ForwardFault;
 pub use table::Table;
+pub use task::{Task, Work};
 
 #[cfg(test)]
 mod tests;
