@@ -7,5 +7,6 @@ pub mod Masters
 pub mod TableRows
 pub mod CheckLemmas
 pub mod SlotLemmas
+pub mod ApplyLemmas
 pub mod OpeningLemmas
 pub mod Tasks

@@ -6,6 +6,7 @@ pub mod NormalForm
 pub mod Records
 pub mod Table
 pub mod Slots
+pub mod Applying
 pub mod Board
 pub mod KeptBoard
 pub mod Opening

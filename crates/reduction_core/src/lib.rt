@@ -2,6 +2,7 @@
 //! tasks, by which a list is reduced unit by unit.
 #![tactic(auto)]
 
+mod applying;
 mod board;
 pub mod checks;
 pub mod laws;

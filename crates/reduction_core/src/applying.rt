@@ -1,0 +1,80 @@
+//! What an event does to the slots of a board.
+
+ghost use Rattle.std.specs.Prelude.{◌<◌, length, Contains, IfOk};
+ghost use Rattle.std.specs.List.{AllZip};
+ghost use Rattle.sector_machine.specs.Machine.{Ascends, IsAfterForward, IsAfterBack};
+ghost use Rattle.reduction_core.specs.Slots.{units_of, state_of};
+ghost use Rattle.reduction_core.specs.Applying.{IsChangedAt, IsChangedFor, HasForward, HasBack, IsRestFor};
+
+use crate::slots::{Slot, joined, place_of};
+use integral_index::{Order, Unit};
+use out_of_memory::OutOfMemory;
+use sparse_row::Row;
+
+/// The slots after the forward elimination of a unit: the rows become its forward rows, what waited
+/// there waits no more, and the rest waits at the units of its greatest integrals.
+pub(crate) fn after_forward(
+    mut slots: Vec<Slot>,
+    unit: Unit,
+    rows: Vec<Row>,
+    rest: Vec<Row>,
+    order: Order,
+) -> Result<Vec<Slot>, OutOfMemory>
+    requires ascend { Ascends (units_of slots.items) }
+    requires listed { Contains (units_of slots.items) unit }
+    requires rest { IsRestFor order unit (units_of slots.items) rest.items }
+    ensures { IfOk result (λ after. IsAfterForward order unit rows.items rest.items (state_of slots.items) (state_of after.items)) }
+{
+    set_forward(&mut slots, unit, rows);
+    joined(slots, rest, order)
+}
+
+/// The slots after the back substitution of a unit: the rows become its back rows.
+pub(crate) fn after_back(mut slots: Vec<Slot>, unit: Unit, rows: Vec<Row>) -> Vec<Slot>
+    requires ascend { Ascends (units_of slots.items) }
+    requires listed { Contains (units_of slots.items) unit }
+    ensures { IsAfterBack unit rows.items (state_of slots.items) (state_of result.items) }
+{
+    set_back(&mut slots, unit, rows);
+    slots
+}
+
+// Puts the forward rows into the slot of the unit, in which nothing waits any more.
+fn set_forward(slots: &mut Vec<Slot>, unit: Unit, rows: Vec<Row>)
+    requires ascend { Ascends (units_of slots.old.items) }
+    requires listed { Contains (units_of slots.old.items) unit }
+    ensures { AllZip (IsChangedFor (HasForward rows.items) unit) slots.old.items slots.new.items }
+{
+    match place_of(slots, unit) {
+        Some(place) => set_forward_at(slots, place, rows),
+        None => unreachable!(),
+    }
+}
+
+fn set_forward_at(slots: &mut Vec<Slot>, place: usize, rows: Vec<Row>)
+    requires { place < length slots.old.items }
+    ensures { IsChangedAt (HasForward rows.items) place slots.old.items slots.new.items }
+{
+    let slot = &mut slots[place];
+    slot.waiting = Vec::new(*rows.allocator());
+    slot.forward = Some(rows);
+}
+
+// Puts the back rows into the slot of the unit.
+fn set_back(slots: &mut Vec<Slot>, unit: Unit, rows: Vec<Row>)
+    requires ascend { Ascends (units_of slots.old.items) }
+    requires listed { Contains (units_of slots.old.items) unit }
+    ensures { AllZip (IsChangedFor (HasBack rows.items) unit) slots.old.items slots.new.items }
+{
+    match place_of(slots, unit) {
+        Some(place) => set_back_at(slots, place, rows),
+        None => unreachable!(),
+    }
+}
+
+fn set_back_at(slots: &mut Vec<Slot>, place: usize, rows: Vec<Row>)
+    requires { place < length slots.old.items }
+    ensures { IsChangedAt (HasBack rows.items) place slots.old.items slots.new.items }
+{
+    slots[place].back = Some(rows);
+}
