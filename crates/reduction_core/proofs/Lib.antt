@@ -8,3 +8,4 @@ pub mod TableRows
 pub mod CheckLemmas
 pub mod SlotLemmas
 pub mod OpeningLemmas
+pub mod AscendingLemmas

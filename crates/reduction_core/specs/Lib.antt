@@ -7,3 +7,4 @@ pub mod Slots
 pub mod Board
 pub mod KeptBoard
 pub mod Opening
+pub mod Ascending

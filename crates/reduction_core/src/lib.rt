@@ -2,6 +2,7 @@
 //! a list is reduced unit by unit.
 #![tactic(auto)]
 
+mod ascending;
 mod board;
 pub mod checks;
 pub mod laws;
