@@ -9,3 +9,4 @@ pub mod CheckLemmas
 pub mod SlotLemmas
 pub mod OpeningLemmas
 pub mod AscendingLemmas
+pub mod Tasks

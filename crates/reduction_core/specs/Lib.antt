@@ -1,10 +1,13 @@
 pub mod Checks
 pub mod KeptTable
+pub mod KeptTask
 pub mod Laws
 pub mod NormalForm
+pub mod Records
 pub mod Table
 pub mod Slots
 pub mod Board
 pub mod KeptBoard
 pub mod Opening
 pub mod Ascending
+pub mod Task

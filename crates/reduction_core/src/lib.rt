@@ -1,5 +1,5 @@
 //! The reduced list of a list of rows, the normal form of an integral under it, and the board on which
-//! a list is reduced unit by unit.
+//! a list is reduced unit by unit, with its tasks.
 #![tactic(auto)]
 
 mod ascending;
@@ -8,13 +8,19 @@ pub mod checks;
 pub mod laws;
 mod opening;
 mod plain;
+mod records;
+mod rows;
 mod slots;
 mod table;
+mod task;
 
 pub use board::Board;
 pub use plain::reduce_plain;
+pub use records::Record;
+pub use rows::Rows;
 pub use sector_forward::ForwardFault;
 pub use table::Table;
+pub use task::{Task, Work};
 
 #[cfg(test)]
 mod tests;

@@ -1,0 +1,6 @@
+-- The rows so far are equal.
+use Rattle.std.proofs.Common.{◌≡◌, take}
+use Rattle.reduction_core.proofs.rows.are_equal.Given as goal
+
+abbrev pub invariant-loop-i : goal.invariant-loop-i
+invariant-loop-i l = take l.i l.rows ≡ take l.i l.others
