@@ -9,4 +9,5 @@ pub mod CheckLemmas
 pub mod SlotLemmas
 pub mod ApplyLemmas
 pub mod OpeningLemmas
+pub mod AscendingLemmas
 pub mod Tasks

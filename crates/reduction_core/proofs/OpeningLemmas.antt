@@ -1,5 +1,5 @@
 -- The units of rows, and the opening.
-use Rattle.std.proofs.Common.{◌≡◌, ◌≢◌, ℕ, ◌+◌, ◌<◌, ◌≤◌, None, Some, unwrap_or, List, [], ◌∷◌, ◌++◌, length, get_or, take, All, AllPairs, Contains, filter, refl, sym, ap, subst, ◌∙◌, ◌⊎◌, inl, inr, arith}
+use Rattle.std.proofs.Common.{◌≡◌, ◌≢◌, ℕ, ◌+◌, ◌-◌, ◌<◌, ◌≤◌, None, Some, unwrap_or, List, [], ◌∷◌, ◌++◌, length, get_or, take, All, AllPairs, Contains, filter, refl, sym, ap, subst, ◌∙◌, ◌⊎◌, inl, inr, arith}
 use Rattle.std.specs.FinMap as finite
 use Rattle.std.specs.List.{AllZip, insert}
 use Rattle.std.specs.List.Sorted.{IsSorted, IsNonDecreasingBy, IsPartitionPoint}
@@ -8,7 +8,7 @@ use Rattle.std.specs.declared.cmp.Ordering.TheVariants.{Less, Equal, Greater}
 use Rattle.std.proofs.lemmas.Bool.{cases_lt, cases_order}
 use Rattle.std.proofs.lemmas.List.{take_more}
 use Rattle.std.proofs.lemmas.List.Edits.{length-insert, get_or-insert_below, get_or-insert_at, get_or-insert_above}
-use Rattle.std.proofs.lemmas.List.Elements.{Contains-get_or, Contains-append_left, Contains-append_cases, Contains-push}
+use Rattle.std.proofs.lemmas.List.Elements.{All-contains, Contains-append_left, Contains-append_cases, Contains-push}
 use Rattle.std.proofs.lemmas.List.Sorted.{IsPermutation-insert, IsPermutation-sym, Contains-permutation, searchable_from_sorted}
 use Rattle.integral_index.specs.declared.Order.{Order}
 use Rattle.integral_index.specs.declared.Unit.{Unit}
@@ -19,19 +19,21 @@ use Rattle.sparse_row.specs.declared.Term.{Term}
 use Rattle.sparse_row.specs.Row.{Row, coefficient, Shows, IsRow, IsGreatest}
 use Rattle.sparse_row.specs.Terms.{IsTermList, total_at}
 use Rattle.sparse_row.proofs.RowValues.{total_at-place}
+use Rattle.sparse_row.proofs.TermLists.{Descends-from_pairs}
 use Rattle.sector_forward.specs.Elimination.{IsShownBySome}
 use Rattle.sector_forward.proofs.Shown.{term_of_shown}
 use Rattle.sector_forward.proofs.Members.{Contains-cons_cases, Contains-here, Contains-there}
 use Rattle.sector_forward.proofs.StepLemmas.{same_at}
 use Rattle.sector_machine.specs.State.{rows_at, unless_empty, has_greatest_in}
+use Rattle.std.specs.Option.{option_map}
 use Rattle.sector_machine.specs.Machine.{Ascends, AreUnitsOf, Opens}
-use Rattle.sector_machine.proofs.Lists.{Contains-none, none_kept}
-use Rattle.sector_machine.proofs.Units.{rows_unless_empty}
+use Rattle.sector_machine.proofs.Lists.{Contains-none}
+use Rattle.sector_machine.proofs.Units.{rows_of_nothing}
 use Rattle.sector_machine.proofs.Greatest.{HasGreatestIn-from_test}
 use Rattle.reduction_core.specs.declared.slots.Slot.{Slot}
-use Rattle.reduction_core.specs.Slots.{by_unit, units_of, state_of, waiting_of, forward_of, back_of, IsJoined, HaveListedUnits}
+use Rattle.reduction_core.specs.Slots.{with_rows, by_unit, units_of, state_of, waiting_of, forward_of, back_of, IsJoined, HaveListedUnits}
 use Rattle.reduction_core.specs.Opening.{ShowsUnit, AreListed, IsEmptySlot}
-use Rattle.reduction_core.proofs.SlotLemmas.{get_listed, get_unlisted, listed_or_not, slot_of_unit, joined_units, zip_units}
+use Rattle.reduction_core.proofs.SlotLemmas.{zip_member, joined_units, joined_waiting}
 
 -- ---- one unit more
 
@@ -126,7 +128,7 @@ listed_row order terms row n units after list is low high before =
             | inr (k, h, of_k) ↦
                 let d : Term = record { integral = record { family = 0; indices = [] }; coefficient = 0 } in
                 let x = (get_or terms k d).integral in
-                inr (x, λ e. list.no_zero k d (omega arith) (sym (total_at-place order terms k d (omega arith) (Descends-from_list order terms list)) ∙ sym (is x) ∙ e), of_k d)
+                inr (x, λ e. list.no_zero k d (omega arith) (sym (total_at-place order terms k d (omega arith) (Descends-from_pairs order terms list.descend)) ∙ sym (is x) ∙ e), of_k d)
           ];
     }
 
@@ -152,3 +154,73 @@ units_more rows n row units after within read are more =
             | inr (x, shows, of_unit) ↦ (x, (row, Contains-push (take n rows) row, shows), of_unit)
           ];
     })
+
+-- ---- the opening
+
+pub empty_units : (units : List Unit) (slots : List Slot) → AllZip IsEmptySlot units slots → units_of slots ≡ units
+empty_units [] [] zip = refl
+empty_units [] (s ∷ slots) zip = absurd zip
+empty_units (u ∷ units) [] zip = absurd zip
+empty_units (u ∷ units) (s ∷ slots) zip =
+    let here = (zip.0).unit_is in
+    let rest = empty_units units slots zip.1 in
+    λ i. here i ∷ rest i
+
+nothing_waits : (units : List Unit) (slots : List Slot) → AllZip IsEmptySlot units slots → by_unit waiting_of slots ≡ finite.empty
+nothing_waits [] [] zip = refl
+nothing_waits [] (s ∷ slots) zip = absurd zip
+nothing_waits (u ∷ units) [] zip = absurd zip
+nothing_waits (u ∷ units) (s ∷ slots) zip = ap (λ rs. with_rows (by_unit waiting_of slots) s.unit (unless_empty rs)) (zip.0).waiting ∙ nothing_waits units slots zip.1
+
+nothing_forward : (order : Order) (rows : List Row) (units : List Unit) (slots after : List Slot) → AllZip IsEmptySlot units slots → AllZip (IsJoined order rows) slots after → by_unit forward_of after ≡ finite.empty
+nothing_forward order rows [] [] [] zip more = refl
+nothing_forward order rows [] [] (a ∷ after) zip more = absurd more
+nothing_forward order rows [] (s ∷ slots) after zip more = absurd zip
+nothing_forward order rows (u ∷ units) [] after zip more = absurd zip
+nothing_forward order rows (u ∷ units) (s ∷ slots) [] zip more = absurd more
+nothing_forward order rows (u ∷ units) (s ∷ slots) (a ∷ after) zip more =
+    ap (λ o. with_rows (by_unit forward_of after) a.unit (option_map (λ rs. rs.items) o)) ((more.0).forward ∙ (zip.0).forward) ∙ nothing_forward order rows units slots after zip.1 more.1
+
+nothing_back : (order : Order) (rows : List Row) (units : List Unit) (slots after : List Slot) → AllZip IsEmptySlot units slots → AllZip (IsJoined order rows) slots after → by_unit back_of after ≡ finite.empty
+nothing_back order rows [] [] [] zip more = refl
+nothing_back order rows [] [] (a ∷ after) zip more = absurd more
+nothing_back order rows [] (s ∷ slots) after zip more = absurd zip
+nothing_back order rows (u ∷ units) [] after zip more = absurd zip
+nothing_back order rows (u ∷ units) (s ∷ slots) [] zip more = absurd more
+nothing_back order rows (u ∷ units) (s ∷ slots) (a ∷ after) zip more =
+    ap (λ o. with_rows (by_unit back_of after) a.unit (option_map (λ rs. rs.items) o)) ((more.0).back ∙ (zip.0).back) ∙ nothing_back order rows units slots after zip.1 more.1
+
+pub ascend_of_empty : (rows : List Row) (units : List Unit) (slots : List Slot) → AreUnitsOf rows units → AllZip IsEmptySlot units slots → Ascends (units_of slots)
+ascend_of_empty rows units slots are zip = subst Ascends (sym (empty_units units slots zip)) are.ascend
+
+pub listed_of_empty : (order : Order) (rows : List Row) (units : List Unit) (slots : List Slot) → AreUnitsOf rows units → AllZip IsEmptySlot units slots → HaveListedUnits order (units_of slots) rows
+listed_of_empty order rows units slots are zip row x member top = subst (λ us. Contains us (unit_of x)) (sym (empty_units units slots zip)) (are.all x (row, member, top.shown))
+
+pub Opens-made : (p : ℕ) (order : Order) (rows : List Row) (units : List Unit) (slots after : List Slot) → All (IsRow p order) rows → AreUnitsOf rows units → AllZip IsEmptySlot units slots → AllZip (IsJoined order rows) slots after → Opens p order rows (state_of after)
+Opens-made p order rows units slots after are_rows are zip more =
+    let same : units_of after ≡ units = joined_units order rows slots after more ∙ empty_units units slots zip in
+    record {
+      are_rows = are_rows;
+      units = subst (AreUnitsOf rows) (sym same) are;
+      waiting = λ unit.
+          let none : rows_at (by_unit waiting_of slots) unit ≡ [] = ap (λ m. rows_at m unit) (nothing_waits units slots zip) ∙ rows_of_nothing unit in
+          joined_waiting order rows slots after unit (ascend_of_empty rows units slots are zip) more
+          (λ row member has.
+          let top = HasGreatestIn-from_test p order unit row (All-contains (IsRow p order) rows row are_rows member) has in
+          subst (Contains (units_of slots)) top.2 (listed_of_empty order rows units slots are zip row top.0 member top.1))
+          ∙ ap (λ rs. unless_empty (rs ++ filter (has_greatest_in order unit) rows)) none;
+      forward = nothing_forward order rows units slots after zip more;
+      back = nothing_back order rows units slots after zip more;
+    }
+
+-- ---- one slot more
+
+zip_push : (units : List Unit) (slots : List Slot) (unit : Unit) (slot : Slot) → AllZip IsEmptySlot units slots → IsEmptySlot unit slot → AllZip IsEmptySlot (units ++ unit ∷ []) (slots ++ slot ∷ [])
+zip_push [] [] unit slot zip is = (is, tt)
+zip_push [] (s ∷ slots) unit slot zip is = absurd zip
+zip_push (u ∷ units) [] unit slot zip is = absurd zip
+zip_push (u ∷ units) (s ∷ slots) unit slot zip is = (zip.0, zip_push units slots unit slot zip.1 is)
+
+pub slots_more : (units : List Unit) (n : ℕ) (d : Unit) (slots : List Slot) (slot : Slot) → n < length units → AllZip IsEmptySlot (take n units) slots → IsEmptySlot (get_or units n d) slot → AllZip IsEmptySlot (take (n + 1) units) (slots ++ slot ∷ [])
+slots_more units n d slots slot within zip is =
+    subst (λ us. AllZip IsEmptySlot us (slots ++ slot ∷ [])) (sym (take_more units n d within)) (zip_push (take n units) slots (get_or units n d) slot zip is)

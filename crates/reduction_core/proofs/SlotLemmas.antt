@@ -20,13 +20,13 @@ use Rattle.sparse_row.specs.Row.{Row, IsRow, IsEmpty, IsGreatest}
 use Rattle.sparse_row.proofs.RowValues.{greatest_same}
 use Rattle.sector_forward.proofs.StepLemmas.{same_at}
 use Rattle.sector_forward.proofs.Members.{Contains-cons_cases, Contains-here, Contains-there, AllPairs-head, AllPairs-tail}
-use Rattle.sector_machine.specs.State.{RowsByUnit, HasNone, rows_at, rows_of, has_greatest_in}
+use Rattle.sector_machine.specs.State.{RowsByUnit, HasNone, rows_at, rows_of, unless_empty, has_greatest_in}
 use Rattle.sector_machine.specs.Machine.{Ascends, HasGreatestIn}
-use Rattle.sector_machine.proofs.Lists.{Contains-none}
+use Rattle.sector_machine.proofs.Lists.{Contains-none, none_kept}
 use Rattle.sector_machine.proofs.Greatest.{HasGreatestIn-from_test, test-from_HasGreatestIn}
-use Rattle.sector_machine.proofs.Units.{unit_cases, less_differs, get_inserted, get_others}
+use Rattle.sector_machine.proofs.Units.{unit_cases, less_differs, get_inserted, get_others, no_rows, rows_unless_empty}
 use Rattle.reduction_core.specs.declared.slots.Slot.{Slot}
-use Rattle.reduction_core.specs.Slots.{with_rows, by_unit, units_of, HasJoined, IsUnitAt, IsPushedAt, IsJoined}
+use Rattle.reduction_core.specs.Slots.{with_rows, by_unit, units_of, waiting_of, HasJoined, IsUnitAt, IsPushedAt, IsJoined}
 
 -- ---- what the maps have
 
@@ -255,3 +255,43 @@ row_joined p order row x place slots after is top ascend at pushed =
 
 pub Contains-one : (row other : Row) → Contains (row ∷ []) other → row ≡ other
 Contains-one row other member = elim (Contains-cons_cases row [] other member) [ inl same ↦ same | inr later ↦ absurd (Contains-none other later) ]
+
+-- ---- what waits after rows were joined
+
+pub zip_member : {X Y : Type 0} (R : X → Y → Type 0) (xs : List X) (ys : List Y) (x : X) → AllZip R xs ys → Contains xs x → (y : Y) × Contains ys y × R x y
+zip_member R [] ys x zip member = absurd (Contains-none x member)
+zip_member R (z ∷ xs) [] x zip member = absurd zip
+zip_member R (z ∷ xs) (y ∷ ys) x zip member =
+    elim (Contains-cons_cases z xs x member) [
+      | inl same ↦ (y, Contains-here y ys, subst (λ w. R w y) same zip.0)
+      | inr later ↦ let found = zip_member R xs ys x zip.1 later in (found.0, Contains-there y ys found.0 found.1, found.2)
+    ]
+
+pub rows_at_slot : (slots : List Slot) (slot : Slot) → Ascends (units_of slots) → Contains slots slot → rows_at (by_unit waiting_of slots) slot.unit ≡ slot.waiting.items
+rows_at_slot slots slot ascend member = ap (λ o. unwrap_or o []) (get_listed waiting_of slots slot ascend member) ∙ rows_unless_empty slot.waiting.items
+
+pub joined_waiting : (order : Order) (rows : List Row) (slots after : List Slot) (u : Unit) → Ascends (units_of slots) → AllZip (IsJoined order rows) slots after → ((row : Row) → Contains rows row → has_greatest_in order u row ≡ true → Contains (units_of slots) u) → finite.get (by_unit waiting_of after) u ≡ unless_empty (rows_at (by_unit waiting_of slots) u ++ filter (has_greatest_in order u) rows)
+joined_waiting order rows slots after u ascend zip listed =
+    let same_units = joined_units order rows slots after zip in
+    let ascend_after : Ascends (units_of after) = subst Ascends (sym same_units) ascend in
+    elim (listed_or_not slots u) [
+      | inl there ↦
+          let found = slot_of_unit slots u there in
+          let slot = found.0 in
+          let partner = zip_member (IsJoined order rows) slots after slot zip found.1 in
+          let next = partner.0 in
+          let old : rows_at (by_unit waiting_of slots) u ≡ slot.waiting.items = ap (rows_at (by_unit waiting_of slots)) (sym found.2) ∙ rows_at_slot slots slot ascend found.1 in
+          ap (finite.get (by_unit waiting_of after)) (sym (partner.2.unit ∙ found.2)) ∙ get_listed waiting_of after next ascend_after partner.1
+          ∙ ap unless_empty (partner.2.waiting ∙ ap (λ v. slot.waiting.items ++ filter (has_greatest_in order v) rows) found.2 ∙ ap (λ rs. rs ++ filter (has_greatest_in order u) rows) (sym old))
+      | inr none ↦
+          let gone : filter (has_greatest_in order u) rows ≡ [] =
+          none_kept (has_greatest_in order u) rows
+          (λ row member.
+          elim (has_greatest_in order u row) as (λ b. has_greatest_in order u row ≡ b → b ≡ false) [
+            | true ↦ λ e. absurd (none (listed row member e))
+            | false ↦ λ _. refl
+          ] refl) in
+          let before : rows_at (by_unit waiting_of slots) u ≡ [] = no_rows (by_unit waiting_of slots) u (get_unlisted waiting_of slots u none) in
+          get_unlisted waiting_of after u (λ member. none (subst (λ us. Contains us u) same_units member))
+          ∙ sym (ap (λ rs. unless_empty (rs ++ filter (has_greatest_in order u) rows)) before ∙ ap unless_empty gone)
+    ]

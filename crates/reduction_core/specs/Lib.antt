@@ -10,4 +10,5 @@ pub mod Applying
 pub mod Board
 pub mod KeptBoard
 pub mod Opening
+pub mod Ascending
 pub mod Task

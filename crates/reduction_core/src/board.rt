@@ -1,8 +1,14 @@
 //! The board of a reduction: a state of the machine of units, with its modulus and order.
 
+use crate::ascending::ascending;
+use crate::opening::opened;
 use crate::slots::{self, Slot};
+use crate::table::Table;
 use field_word::Modulus;
 use integral_index::Order;
+use out_of_memory::OutOfMemory;
+use sparse_row::Row;
+use std::alloc::Global;
 use std::marker::Model;
 
 /// The state of a reduction: which rows wait, and which units have their forward rows and their back
@@ -31,8 +37,33 @@ impl Model for Board {
 }
 
 impl Board {
-    ghost use Rattle.std.specs.Prelude.{◌≡◌, length, IsTrue, ◌↔◌};
-    ghost use Rattle.sector_machine.specs.Machine.{IsDone, forward_count, back_count};
+    ghost use Rattle.std.specs.Prelude.{◌≡◌, ◌↔◌, List, length, All, IsTrue, IfOk};
+    ghost use Rattle.sparse_row.specs.Row.{Row as RowValue, IsRow};
+    ghost use Rattle.sparse_row.specs.ReducedList.{IsReduced};
+    ghost use Rattle.sector_machine.specs.Machine.{Opens, IsDone, forward_count, back_count};
+    ghost use Rattle.sector_machine.specs.Tasks.{IsTableOf};
+    ghost use Rattle.sector_machine.specs.Invariant.{Holds};
+
+    /// The opening of the rows: each waits at the unit of its greatest integral. Empty rows are dropped.
+    pub fn open(
+        alloc: Global,
+        rows: Vec<Row>,
+        modulus: Modulus,
+        order: Order,
+    ) -> Result<Board, OutOfMemory>
+        requires { All (IsRow modulus order) rows.items }
+        ensures opens { IfOk result (λ board. Opens modulus order rows.items board.state) }
+        ensures modulus { IfOk result (λ board. board.modulus ≡ modulus) }
+        ensures order { IfOk result (λ board. board.order ≡ order) }
+    {
+        let _p = modulus.value();
+        let slots = opened(alloc, rows, order)?;
+        Ok(Board {
+            slots,
+            modulus,
+            order,
+        })
+    }
 
     /// How many units there are.
     pub fn unit_count(&self) -> u64
@@ -60,6 +91,26 @@ impl Board {
         ensures { IsTrue result ↔ IsDone self.now.state }
     {
         self.back_count() == self.unit_count()
+    }
+
+    /// The table of the back rows, ascending. It is the reduced list of all equations from whose
+    /// opening a run leads to this state: see `sector_machine::laws::done_is_reduced`.
+    pub fn table(&self) -> Result<Table, OutOfMemory>
+        requires { IsDone self.now.state }
+        ensures table { IfOk result (λ table. IsTableOf self.now.order self.now.state table.rows) }
+        ensures modulus { IfOk result (λ table. table.modulus ≡ self.now.modulus) }
+        ensures order { IfOk result (λ table. table.order ≡ self.now.order) }
+        ensures reduced { IfOk result (λ table. (equations : List RowValue) →
+            Holds self.now.modulus self.now.order equations self.now.state →
+            IsReduced self.now.modulus self.now.order equations table.rows) }
+        ensures only { IfOk result (λ table. (equations other : List RowValue) →
+            Holds self.now.modulus self.now.order equations self.now.state →
+            IsReduced self.now.modulus self.now.order equations other → other ≡ table.rows) }
+    {
+        let alloc = *self.slots.allocator();
+        let rows = slots::back_rows(alloc, &self.slots)?;
+        let rows = ascending(alloc, rows, self.order)?;
+        Ok(Table::of_rows(rows, self.modulus, self.order))
     }
 
     /// The modulus of the coefficients.

@@ -1,16 +1,17 @@
-//! The reduced list of a list of rows, the normal form of an integral under it, and the board and its
-//! tasks, by which a list is reduced unit by unit.
+//! The reduced list of a list of rows, the normal form of an integral under it, and the board on which
+//! a list is reduced unit by unit, with its tasks.
 #![tactic(auto)]
 
 mod applying;
+mod ascending;
 mod board;
 pub mod checks;
 pub mod laws;
 mod opening;
 mod plain;
-mod slots;
 mod records;
 mod rows;
+mod slots;
 mod table;
 mod task;
 
