@@ -7,3 +7,4 @@ pub mod Masters
 pub mod TableRows
 pub mod CheckLemmas
 pub mod Tasks
+pub mod RowTests

@@ -2,6 +2,7 @@
 //! which it is computed unit by unit.
 #![tactic(auto)]
 
+pub mod acceptance;
 pub mod checks;
 pub mod laws;
 mod plain;
