@@ -11,3 +11,4 @@ pub mod ApplyLemmas
 pub mod OpeningLemmas
 pub mod AscendingLemmas
 pub mod Tasks
+pub mod RowTests

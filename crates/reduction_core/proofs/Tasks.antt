@@ -54,11 +54,10 @@ meet_in_order p order unit (row ∷ more) below both =
     subst (λ o. Meet p o unit (row ∷ more) below) (sym (All-head (IsRuleOf p order unit) row more both.0.each).is_row.ordered) both
 meet_in_order p order unit [] (row ∷ more) both =
     subst (λ o. Meet p o unit [] (row ∷ more)) (sym (All-head (IsRuleOutside p order unit) row more both.1.each).is_row.ordered) both
-meet_in_order p order unit [] [] both =
-    (
-      record { each = All-nil (IsRuleOf p (order_of []) unit); apart = λ i j d x h. absurd (omega arith) },
-      record { each = All-nil (IsRuleOutside p (order_of []) unit); apart = λ i j d x h. absurd (omega arith) },
-    )
+meet_in_order p order unit [] [] both = (
+  record { each = All-nil (IsRuleOf p (order_of []) unit); apart = λ i j d x h. absurd (omega arith) },
+  record { each = All-nil (IsRuleOutside p (order_of []) unit); apart = λ i j d x h. absurd (omega arith) },
+)
 
 substitution_of_none : (p : ℕ) (order other : Order) (unit : Unit) (rows : List Row) → rows ≡ [] → Meet p order unit [] [] → IsSubstitution p other unit [] [] rows → IsSubstitution p order unit [] [] rows
 substitution_of_none p order other unit rows none both s =

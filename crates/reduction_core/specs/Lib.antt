@@ -1,3 +1,4 @@
+pub mod Acceptance
 pub mod Checks
 pub mod KeptTable
 pub mod KeptTask

@@ -137,7 +137,7 @@ pub fn normal_form_by_scan(
 }
 
 // Whether x is the pivot of the row.
-fn is_pivot(row: &Row, order: Order, x: &Integral) -> bool
+pub(crate) fn is_pivot(row: &Row, order: Order, x: &Integral) -> bool
     requires { row.now.order ≡ order }
     ensures { IsTrue result ↔ IsPivot order row.now x.now }
 {

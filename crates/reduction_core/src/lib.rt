@@ -2,6 +2,7 @@
 //! a list is reduced unit by unit, with its tasks.
 #![tactic(auto)]
 
+mod acceptance;
 mod applying;
 mod ascending;
 mod board;

@@ -138,10 +138,7 @@ impl Task {
     /// substitution none.
     ///
     /// `Composite` only with a divisor of the modulus that lies between 1 and it.
-    pub fn compute<L: Ledger>(
-        self,
-        steps: &mut Steps<L>,
-    ) -> Result<(Task, Record), ForwardFault>
+    pub fn compute<L: Ledger>(self, steps: &mut Steps<L>) -> Result<(Task, Record), ForwardFault>
         ensures task { IfOk result (λ done. done.0 ≡ self) }
         ensures event { IfOk result (λ done. MeetsTask done.0 done.1) }
         ensures cause { IfErr result (λ fault. HasCause self.modulus fault) }
@@ -164,12 +161,20 @@ impl Work {
         ensures { IsTrue result ↔ (self.now ≡ other.now) }
     {
         match (self, other) {
-            (Work::Forward { unit, rows }, Work::Forward { unit: other_unit, rows: other_rows }) => {
-                unit == other_unit && rows.equals(other_rows)
-            }
+            (
+                Work::Forward { unit, rows },
+                Work::Forward {
+                    unit: other_unit,
+                    rows: other_rows,
+                },
+            ) => { unit == other_unit && rows.equals(other_rows) }
             (
                 Work::Back { unit, rows, below },
-                Work::Back { unit: other_unit, rows: other_rows, below: other_below },
+                Work::Back {
+                    unit: other_unit,
+                    rows: other_rows,
+                    below: other_below,
+                },
             ) => unit == other_unit && rows.equals(other_rows) && below.equals(other_below),
             _ => false,
         }

@@ -21,7 +21,7 @@ returns-clause-event c =
     substitution_met c.args.modulus c.args.unit s.unit c.args.rows.items c.args.below.items s.rows c.back.result c.of_back-input.result.2
     c.in_ok-outcome.ensures.unit
     (
-      c.back.ensures ∙ ap (λ rows. whole rows c.of_back-input.result.1.items) (c.of_back-input.ensures.input ∙ c.in_ok-outcome.ensures.input)
-      ∙ ap (whole c.args.rows.items) (c.of_back-input.ensures.below ∙ c.in_ok-outcome.ensures.below)
+    c.back.ensures ∙ ap (λ rows. whole rows c.of_back-input.result.1.items) (c.of_back-input.ensures.input ∙ c.in_ok-outcome.ensures.input)
+    ∙ ap (whole c.args.rows.items) (c.of_back-input.ensures.below ∙ c.in_ok-outcome.ensures.below)
     )
     c.of_back-input.ensures.value c.in_ok-outcome.ensures.substitution
