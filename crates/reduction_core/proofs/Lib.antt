@@ -8,6 +8,7 @@ pub mod TableRows
 pub mod CheckLemmas
 pub mod SlotLemmas
 pub mod ApplyLemmas
+pub mod BoardLemmas
 pub mod OpeningLemmas
 pub mod AscendingLemmas
 pub mod Tasks

@@ -1,5 +1,9 @@
 -- What a record tells. The project's own.
+use Rattle.std.specs.Prelude.{ℕ}
+use Rattle.integral_index.specs.declared.Order.{Order}
+use Rattle.sector_machine.specs.State.{State}
 use Rattle.sector_machine.specs.Machine.{Event}
+use Rattle.sector_machine.specs.Accepted.{IsAcceptedForward, IsAcceptedBack}
 use Rattle.reduction_core.specs.declared.records.Record.{Record}
 use Rattle.reduction_core.specs.declared.records.Record.TheVariants.{Forward, Back}
 
@@ -7,3 +11,8 @@ use Rattle.reduction_core.specs.declared.records.Record.TheVariants.{Forward, Ba
 abbrev pub event_of : Record → Event
 event_of (Forward unit rows rest) = Event.Forward unit rows rest
 event_of (Back unit rows) = Event.Back unit rows
+
+-- the event of the record may happen in the state, and all that can be told of the record's rows without their spans is so
+abbrev pub IsAccepted : ℕ → Order → State → Record → Type 0
+IsAccepted p order state (Forward unit rows rest) = IsAcceptedForward p order state unit rows rest
+IsAccepted p order state (Back unit rows) = IsAcceptedBack p order state unit rows

@@ -1,19 +1,39 @@
-//! What an event does to the slots of a board.
+//! What a record does to the slots of a board.
 
-ghost use Rattle.std.specs.Prelude.{◌<◌, length, Contains, IfOk};
+ghost use Rattle.std.specs.Prelude.{ℕ, ◌<◌, length, Contains, IfOk};
 ghost use Rattle.std.specs.List.{AllZip};
 ghost use Rattle.sector_machine.specs.Machine.{Ascends, IsAfterForward, IsAfterBack};
 ghost use Rattle.reduction_core.specs.Slots.{units_of, state_of};
-ghost use Rattle.reduction_core.specs.Applying.{IsChangedAt, IsChangedFor, HasForward, HasBack, IsRestFor};
+ghost use Rattle.reduction_core.specs.KeptBoard.{IsBoard};
+ghost use Rattle.reduction_core.specs.Records.{event_of, IsAccepted};
+ghost use Rattle.reduction_core.specs.Applying.{IsChangedAt, IsChangedFor, IsAfter, HasForward, HasBack, IsRestFor};
 
+use crate::records::Record;
 use crate::slots::{Slot, joined, place_of};
 use integral_index::{Order, Unit};
 use out_of_memory::OutOfMemory;
 use sparse_row::Row;
 
-/// The slots after the forward elimination of a unit: the rows become its forward rows, what waited
-/// there waits no more, and the rest waits at the units of its greatest integrals.
-pub(crate) fn after_forward(
+/// The slots after the event of the record.
+pub(crate) fn after_record(
+    slots: Vec<Slot>,
+    entry: Record,
+    order: Order,
+) -> Result<Vec<Slot>, OutOfMemory>
+    requires { (p : ℕ) × IsBoard p order (state_of slots.items) × IsAccepted p order (state_of slots.items) entry }
+    ensures { IfOk result (λ after. IsAfter order (event_of entry) (state_of slots.items) (state_of after.items)) }
+{
+    match entry {
+        Record::Forward { unit, rows, rest } => {
+            after_forward(slots, unit, rows.into_vec(), rest.into_vec(), order)
+        }
+        Record::Back { unit, rows } => Ok(after_back(slots, unit, rows.into_vec())),
+    }
+}
+
+// The slots after the forward elimination of a unit: the rows become its forward rows, what waited
+// there waits no more, and the rest waits at the units of its greatest integrals.
+fn after_forward(
     mut slots: Vec<Slot>,
     unit: Unit,
     rows: Vec<Row>,
@@ -29,8 +49,8 @@ pub(crate) fn after_forward(
     joined(slots, rest, order)
 }
 
-/// The slots after the back substitution of a unit: the rows become its back rows.
-pub(crate) fn after_back(mut slots: Vec<Slot>, unit: Unit, rows: Vec<Row>) -> Vec<Slot>
+// The slots after the back substitution of a unit: the rows become its back rows.
+fn after_back(mut slots: Vec<Slot>, unit: Unit, rows: Vec<Row>) -> Vec<Slot>
     requires ascend { Ascends (units_of slots.items) }
     requires listed { Contains (units_of slots.items) unit }
     ensures { IsAfterBack unit rows.items (state_of slots.items) (state_of result.items) }

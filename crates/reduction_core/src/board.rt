@@ -1,7 +1,9 @@
 //! The board of a reduction: a state of the machine of units, with its modulus and order.
 
+use crate::applying::after_record;
 use crate::ascending::ascending;
 use crate::opening::opened;
+use crate::records::Record;
 use crate::slots::{self, Slot};
 use crate::table::Table;
 use field_word::Modulus;
@@ -10,6 +12,7 @@ use out_of_memory::OutOfMemory;
 use sparse_row::Row;
 use std::alloc::Global;
 use std::marker::Model;
+use std::mem;
 
 /// The state of a reduction: which rows wait, and which units have their forward rows and their back
 /// rows. It is moved by events: see `sector_machine::laws`. Source: arXiv:1705.05610, where sectors
@@ -37,12 +40,14 @@ impl Model for Board {
 }
 
 impl Board {
-    ghost use Rattle.std.specs.Prelude.{◌≡◌, ◌↔◌, List, length, All, IsTrue, IfOk};
+    ghost use Rattle.std.specs.Prelude.{◌≡◌, ◌↔◌, List, length, All, IsTrue, IfOk, OnOk};
     ghost use Rattle.sparse_row.specs.Row.{Row as RowValue, IsRow};
     ghost use Rattle.sparse_row.specs.ReducedList.{IsReduced};
     ghost use Rattle.sector_machine.specs.Machine.{Opens, IsDone, forward_count, back_count};
     ghost use Rattle.sector_machine.specs.Tasks.{IsTableOf};
     ghost use Rattle.sector_machine.specs.Invariant.{Holds};
+    ghost use Rattle.reduction_core.specs.Records.{event_of, IsAccepted};
+    ghost use Rattle.reduction_core.specs.Applying.{IsAfter};
 
     /// The opening of the rows: each waits at the unit of its greatest integral. Empty rows are dropped.
     pub fn open(
@@ -91,6 +96,24 @@ impl Board {
         ensures { IsTrue result ↔ IsDone self.now.state }
     {
         self.back_count() == self.unit_count()
+    }
+
+    /// The board after the event of the record. A record is accepted where its event may happen, and its
+    /// rows are such as an event may have; whether they have the right span its type doesn't tell. Where
+    /// they have, as `Task::compute` says of the records that it gives, the machine goes on by this
+    /// event: see `sector_machine::laws::computed_rows_serve`.
+    ///
+    /// After `OutOfMemory` the board has no units, and is to be opened again.
+    pub fn apply(&mut self, entry: Record) -> Result<(), OutOfMemory>
+        requires { IsAccepted self.old.modulus self.old.order self.old.state entry }
+        ensures after { OnOk result (IsAfter self.old.order (event_of entry) self.old.state self.new.state) }
+        ensures modulus { self.new.modulus ≡ self.old.modulus }
+        ensures order { self.new.order ≡ self.old.order }
+    {
+        let alloc = *self.slots.allocator();
+        let slots = mem::replace(&mut self.slots, Vec::new(alloc));
+        self.slots = after_record(slots, entry, self.order)?;
+        Ok(())
     }
 
     /// The table of the back rows, ascending. It is the reduced list of all equations from whose
