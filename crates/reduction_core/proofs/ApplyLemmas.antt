@@ -142,8 +142,8 @@ module _ (p : ℕ) (order : Order) (rest : List Row) (slots after : List Slot) (
             let next = zip_member (IsJoined order rest) slots after found.0 zip found.1 in
             let slot = found.0 in
             let joined : IsJoined order rest slot next.0 = next.2 in
-            let waits : rows_at (by_unit waiting_of slots) slot.unit ≡ slot.waiting.items = ap (λ o. unwrap_or o []) (get_listed waiting_of slots slot ascend found.1) ∙ rows_unless_empty slot.waiting.items in
-            let is : finite.get (by_unit waiting_of after) next.0.unit ≡ unless_empty next.0.waiting.items = get_listed waiting_of after next.0 joined_ascend next.1 in
+            let waits : rows_at (by_unit waiting_of slots) slot.unit ≡ slot.waiting = ap (λ o. unwrap_or o []) (get_listed waiting_of slots slot ascend found.1) ∙ rows_unless_empty slot.waiting in
+            let is : finite.get (by_unit waiting_of after) next.0.unit ≡ unless_empty next.0.waiting = get_listed waiting_of after next.0 joined_ascend next.1 in
             subst (λ u. finite.get (by_unit waiting_of after) u ≡ unless_empty (rows_at (by_unit waiting_of slots) u ++ filter (has_greatest_in order u) rest)) found.2
             (ap (finite.get (by_unit waiting_of after)) (sym joined.unit) ∙ is ∙ ap unless_empty (joined.waiting ∙ ap (λ rs. rs ++ filter (has_greatest_in order slot.unit) rest) (sym waits)))
         | inr unlisted ↦
@@ -162,7 +162,7 @@ module _ (p : ℕ) (order : Order) (rest : List Row) (slots after : List Slot) (
   pub forward_joined : by_unit forward_of after ≡ by_unit forward_of slots
   forward_joined =
       same_part forward_of slots after
-      (zip_weaker (IsJoined order rest) (IsSamePart forward_of) slots after (λ slot next joined. (joined.unit, ap (option_map (λ rows. rows.items)) joined.forward)) zip)
+      (zip_weaker (IsJoined order rest) (IsSamePart forward_of) slots after (λ slot next joined. (joined.unit, joined.forward)) zip)
 
   pub back_joined : by_unit back_of after ≡ by_unit back_of slots
   back_joined =
@@ -211,6 +211,6 @@ is_after_back unit rows slots after ascend listed changed =
     record {
       units = changed_units (HasBack rows) unit slots after changed;
       waiting = kept_part waiting_of (HasBack rows) unit slots after ascend changed (λ slot next has. ap unless_empty has.waiting);
-      forward = kept_part forward_of (HasBack rows) unit slots after ascend changed (λ slot next has. ap (option_map (λ rs. rs.items)) has.forward);
+      forward = kept_part forward_of (HasBack rows) unit slots after ascend changed (λ slot next has. has.forward);
       back = inserted_part back_of (HasBack rows) unit slots after ascend changed rows (λ slot next has. has.back) listed;
     }

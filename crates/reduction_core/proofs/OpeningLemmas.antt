@@ -6,6 +6,7 @@ use Rattle.std.specs.List.Sorted.{IsSorted, IsNonDecreasingBy, IsPartitionPoint}
 use Rattle.std.specs.Ordering.{is_lt, ordering_index, ordering_reverse}
 use Rattle.std.specs.declared.cmp.Ordering.TheVariants.{Less, Equal, Greater}
 use Rattle.std.proofs.lemmas.Bool.{cases_lt, cases_order}
+use Rattle.std.proofs.lemmas.Cmp.{tied_itself}
 use Rattle.std.proofs.lemmas.List.{take_more}
 use Rattle.std.proofs.lemmas.List.Edits.{length-insert, get_or-insert_below, get_or-insert_at, get_or-insert_above}
 use Rattle.std.proofs.lemmas.List.Elements.{All-contains, Contains-append_left, Contains-append_cases, Contains-push}
@@ -67,6 +68,18 @@ unit_there units unit place within equal ascend =
     let own : get_or units place unit ≡ unit = unit_compare-IsAntisymmetric (get_or units place unit) unit (equal unit) in
     let there : Contains units unit = (place, within, own) in
     record { ascend = ascend; kept = λ _ member. member; all = λ other same. subst (Contains units) same there; only = λ other member. inl member }
+
+pub unit_is_listed : (units : List Unit) (unit : Unit) (place : ℕ) → place < length units → ((d : Unit) → unit_compare (get_or units place d) unit ≡ Equal) → Contains units unit
+unit_is_listed units unit place within equal = (place, within, unit_compare-IsAntisymmetric (get_or units place unit) unit (equal unit))
+
+pub unit_is_unlisted : (units : List Unit) (unit : Unit) (place : ℕ) → (IsNonDecreasingBy (λ u. ordering_index (unit_compare u unit)) units → IsPartitionPoint (λ u. unit_compare u unit ≡ Less) (λ u. unit_compare u unit ≡ Greater) units place) → Ascends units → ¬ (Contains units unit)
+unit_is_unlisted units unit place parted ascend (k, within, at) =
+    let parts = parted (searchable_from_sorted unit_compare-total (λ u. u) units unit (units_sorted units ascend)) in
+    let tied : unit_compare (get_or units k unit) unit ≡ Equal = ap (λ u. unit_compare u unit) at ∙ tied_itself unit_compare-total unit in
+    elim (cases_lt k place) [
+      | inl before ↦ let less = parts.0 k unit (omega arith) before in absurd (cc)
+      | inr after ↦ let greater = parts.1 k unit after within in absurd (cc)
+    ]
 
 pub unit_inserted : (units : List Unit) (unit : Unit) (place : ℕ) → place ≤ length units → (IsNonDecreasingBy (λ u. ordering_index (unit_compare u unit)) units → IsPartitionPoint (λ u. unit_compare u unit ≡ Less) (λ u. unit_compare u unit ≡ Greater) units place) → Ascends units → AreListed (λ other. unit ≡ other) units (insert units place unit)
 unit_inserted units unit place within parted ascend =
@@ -137,23 +150,26 @@ listed_row order terms row n units after list is low high before =
 pub no_units : AreUnitsOf [] []
 no_units = record { ascend = λ i j d l h. absurd (omega arith); all = λ x (row, member, shows). absurd (Contains-none row member); only = λ unit member. absurd (Contains-none unit member) }
 
-pub units_more : (rows : List Row) (n : ℕ) (row : Row) (units after : List Unit) → n < length rows → row ≡ get_or rows n row → AreUnitsOf (take n rows) units → AreListed (ShowsUnit row) units after → AreUnitsOf (take (n + 1) rows) after
-units_more rows n row units after within read are more =
-    let longer : take (n + 1) rows ≡ take n rows ++ row ∷ [] = take_more rows n row within ∙ ap (λ r. take n rows ++ r ∷ []) (sym read) in
-    subst (λ rs. AreUnitsOf rs after) (sym longer)
-    (record {
+pub row_more : (rows : List Row) (row : Row) (units after : List Unit) → AreUnitsOf rows units → AreListed (ShowsUnit row) units after → AreUnitsOf (rows ++ row ∷ []) after
+row_more rows row units after are more =
+    record {
       ascend = more.ascend;
       all = λ x (other, member, shows).
-          elim (Contains-append_cases (take n rows) (row ∷ []) other member) [
+          elim (Contains-append_cases rows (row ∷ []) other member) [
             | inl old ↦ more.kept (unit_of x) (are.all x (other, old, shows))
             | inr last ↦ more.all (unit_of x) (x, subst (λ r. Shows r x) (sym (elim (Contains-cons_cases row [] other last) [ inl same ↦ same | inr later ↦ absurd (Contains-none other later) ])) shows, refl)
           ];
       only = λ unit member.
           elim (more.only unit member) [
-            | inl old ↦ let found = are.only unit old in (found.0, (found.1.0, Contains-append_left (take n rows) (row ∷ []) found.1.0 found.1.1, found.1.2), found.2)
-            | inr (x, shows, of_unit) ↦ (x, (row, Contains-push (take n rows) row, shows), of_unit)
+            | inl old ↦ let found = are.only unit old in (found.0, (found.1.0, Contains-append_left rows (row ∷ []) found.1.0 found.1.1, found.1.2), found.2)
+            | inr (x, shows, of_unit) ↦ (x, (row, Contains-push rows row, shows), of_unit)
           ];
-    })
+    }
+
+pub units_more : (rows : List Row) (n : ℕ) (row : Row) (units after : List Unit) → n < length rows → row ≡ get_or rows n row → AreUnitsOf (take n rows) units → AreListed (ShowsUnit row) units after → AreUnitsOf (take (n + 1) rows) after
+units_more rows n row units after within read are more =
+    let longer : take (n + 1) rows ≡ take n rows ++ row ∷ [] = take_more rows n row within ∙ ap (λ r. take n rows ++ r ∷ []) (sym read) in
+    subst (λ rs. AreUnitsOf rs after) (sym longer) (row_more (take n rows) row units after are more)
 
 -- ---- the opening
 
@@ -179,7 +195,7 @@ nothing_forward order rows [] (s ∷ slots) after zip more = absurd zip
 nothing_forward order rows (u ∷ units) [] after zip more = absurd zip
 nothing_forward order rows (u ∷ units) (s ∷ slots) [] zip more = absurd more
 nothing_forward order rows (u ∷ units) (s ∷ slots) (a ∷ after) zip more =
-    ap (λ o. with_rows (by_unit forward_of after) a.unit (option_map (λ rs. rs.items) o)) ((more.0).forward ∙ (zip.0).forward) ∙ nothing_forward order rows units slots after zip.1 more.1
+    ap (λ o. with_rows (by_unit forward_of after) a.unit o) ((more.0).forward ∙ (zip.0).forward) ∙ nothing_forward order rows units slots after zip.1 more.1
 
 nothing_back : (order : Order) (rows : List Row) (units : List Unit) (slots after : List Slot) → AllZip IsEmptySlot units slots → AllZip (IsJoined order rows) slots after → by_unit back_of after ≡ finite.empty
 nothing_back order rows [] [] [] zip more = refl

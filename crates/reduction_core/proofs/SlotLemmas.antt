@@ -190,7 +190,7 @@ pub joined_units : (order : Order) (rows : List Row) (slots after : List Slot) �
 joined_units order rows slots after zip = zip_units (IsJoined order rows) (λ slot next joined. joined.unit) slots after zip
 
 HasJoined-none : (slot : Slot) → HasJoined [] slot slot
-HasJoined-none slot = record { unit = refl; waiting = sym (append-nil slot.waiting.items); forward = refl; back = refl }
+HasJoined-none slot = record { unit = refl; waiting = sym (append-nil slot.waiting); forward = refl; back = refl }
 
 pub joined_nothing : (order : Order) (rows : List Row) (slots : List Slot) → ((slot : Slot) → filter (has_greatest_in order slot.unit) rows ≡ []) → AllZip (IsJoined order rows) slots slots
 joined_nothing order rows [] none = tt
@@ -208,9 +208,9 @@ joined_more order rows row (s ∷ slots) (a ∷ after) (n ∷ next) zip more =
     let own : filter (has_greatest_in order a.unit) (row ∷ []) ≡ filter (has_greatest_in order s.unit) (row ∷ []) = ap (λ u. filter (has_greatest_in order u) (row ∷ [])) first.unit in (
       record {
         unit = last.unit ∙ first.unit;
-        waiting = last.waiting ∙ ap (λ rs. a.waiting.items ++ rs) own ∙ ap (λ rs. rs ++ filter (has_greatest_in order s.unit) (row ∷ [])) first.waiting
-            ∙ append_assoc s.waiting.items (filter (has_greatest_in order s.unit) rows) (filter (has_greatest_in order s.unit) (row ∷ []))
-            ∙ ap (λ rs. s.waiting.items ++ rs) (sym (filter-append (has_greatest_in order s.unit) rows (row ∷ [])));
+        waiting = last.waiting ∙ ap (λ rs. a.waiting ++ rs) own ∙ ap (λ rs. rs ++ filter (has_greatest_in order s.unit) (row ∷ [])) first.waiting
+            ∙ append_assoc s.waiting (filter (has_greatest_in order s.unit) rows) (filter (has_greatest_in order s.unit) (row ∷ []))
+            ∙ ap (λ rs. s.waiting ++ rs) (sym (filter-append (has_greatest_in order s.unit) rows (row ∷ [])));
         forward = last.forward ∙ first.forward;
         back = last.back ∙ first.back;
       },
@@ -267,8 +267,8 @@ zip_member R (z ∷ xs) (y ∷ ys) x zip member =
       | inr later ↦ let found = zip_member R xs ys x zip.1 later in (found.0, Contains-there y ys found.0 found.1, found.2)
     ]
 
-pub rows_at_slot : (slots : List Slot) (slot : Slot) → Ascends (units_of slots) → Contains slots slot → rows_at (by_unit waiting_of slots) slot.unit ≡ slot.waiting.items
-rows_at_slot slots slot ascend member = ap (λ o. unwrap_or o []) (get_listed waiting_of slots slot ascend member) ∙ rows_unless_empty slot.waiting.items
+pub rows_at_slot : (slots : List Slot) (slot : Slot) → Ascends (units_of slots) → Contains slots slot → rows_at (by_unit waiting_of slots) slot.unit ≡ slot.waiting
+rows_at_slot slots slot ascend member = ap (λ o. unwrap_or o []) (get_listed waiting_of slots slot ascend member) ∙ rows_unless_empty slot.waiting
 
 pub joined_waiting : (order : Order) (rows : List Row) (slots after : List Slot) (u : Unit) → Ascends (units_of slots) → AllZip (IsJoined order rows) slots after → ((row : Row) → Contains rows row → has_greatest_in order u row ≡ true → Contains (units_of slots) u) → finite.get (by_unit waiting_of after) u ≡ unless_empty (rows_at (by_unit waiting_of slots) u ++ filter (has_greatest_in order u) rows)
 joined_waiting order rows slots after u ascend zip listed =
@@ -280,9 +280,9 @@ joined_waiting order rows slots after u ascend zip listed =
           let slot = found.0 in
           let partner = zip_member (IsJoined order rows) slots after slot zip found.1 in
           let next = partner.0 in
-          let old : rows_at (by_unit waiting_of slots) u ≡ slot.waiting.items = ap (rows_at (by_unit waiting_of slots)) (sym found.2) ∙ rows_at_slot slots slot ascend found.1 in
+          let old : rows_at (by_unit waiting_of slots) u ≡ slot.waiting = ap (rows_at (by_unit waiting_of slots)) (sym found.2) ∙ rows_at_slot slots slot ascend found.1 in
           ap (finite.get (by_unit waiting_of after)) (sym (partner.2.unit ∙ found.2)) ∙ get_listed waiting_of after next ascend_after partner.1
-          ∙ ap unless_empty (partner.2.waiting ∙ ap (λ v. slot.waiting.items ++ filter (has_greatest_in order v) rows) found.2 ∙ ap (λ rs. rs ++ filter (has_greatest_in order u) rows) (sym old))
+          ∙ ap unless_empty (partner.2.waiting ∙ ap (λ v. slot.waiting ++ filter (has_greatest_in order v) rows) found.2 ∙ ap (λ rs. rs ++ filter (has_greatest_in order u) rows) (sym old))
       | inr none ↦
           let gone : filter (has_greatest_in order u) rows ≡ [] =
           none_kept (has_greatest_in order u) rows

@@ -24,14 +24,14 @@ pub record IsChangedFor (R : Slot → Slot → Type 0) (unit : Unit) (slot after
 -- the slot has these forward rows, and nothing waits there any more
 pub record HasForward (rows : List Row) (slot after : Slot) : Type 0 where
   pub unit : after.unit ≡ slot.unit
-  pub waiting : after.waiting.items ≡ []
+  pub waiting : after.waiting ≡ []
   pub forward : forward_of after ≡ Some rows
   pub back : after.back ≡ slot.back
 
 -- the slot has these back rows
 pub record HasBack (rows : List Row) (slot after : Slot) : Type 0 where
   pub unit : after.unit ≡ slot.unit
-  pub waiting : after.waiting.items ≡ slot.waiting.items
+  pub waiting : after.waiting ≡ slot.waiting
   pub forward : after.forward ≡ slot.forward
   pub back : back_of after ≡ Some rows
 

@@ -4,12 +4,17 @@ use Rattle.integral_index.specs.declared.Unit.{Unit}
 use Rattle.integral_index.specs.Integral.{Integral}
 use Rattle.integral_index.specs.Order.{unit_of}
 use Rattle.sparse_row.specs.Row.{Row, Shows}
+use Rattle.sector_forward.specs.Elimination.{IsShownBySome}
 use Rattle.sector_machine.specs.Machine.{Ascends}
 use Rattle.reduction_core.specs.declared.slots.Slot.{Slot}
 
 -- the row shows an integral of the unit
 abbrev pub ShowsUnit : Row → Unit → Type 0
 ShowsUnit row unit = (x : Integral) × Shows row x × (unit_of x ≡ unit)
+
+-- one of the rows shows an integral of the unit
+abbrev pub ShowUnit : List Row → Unit → Type 0
+ShowUnit rows unit = (x : Integral) × IsShownBySome rows x × (unit_of x ≡ unit)
 
 -- the new units are in the list too, and it still ascends
 pub record AreListed (are_new : Unit → Type 0) (old new : List Unit) : Type 0 where
@@ -21,6 +26,6 @@ pub record AreListed (are_new : Unit → Type 0) (old new : List Unit) : Type 0 
 -- the slot of the unit, where nothing waits and nothing is done
 pub record IsEmptySlot (unit : Unit) (slot : Slot) : Type 0 where
   pub unit_is : slot.unit ≡ unit
-  pub waiting : slot.waiting.items ≡ []
+  pub waiting : slot.waiting ≡ []
   pub forward : slot.forward ≡ None
   pub back : slot.back ≡ None

@@ -12,10 +12,10 @@ use Rattle.reduction_core.specs.declared.slots.Slot.{Slot}
 
 -- what a slot has of each of the three lists
 abbrev pub waiting_of : Slot → Option (List Row)
-waiting_of slot = unless_empty slot.waiting.items
+waiting_of slot = unless_empty slot.waiting
 
 abbrev pub forward_of : Slot → Option (List Row)
-forward_of slot = option_map (λ rows. rows.items) slot.forward
+forward_of slot = slot.forward
 
 abbrev pub back_of : Slot → Option (List Row)
 back_of slot = option_map (λ rows. rows.items) slot.back
@@ -43,7 +43,7 @@ IsUnitAt slots unit place = (place < length slots) × ((d : Slot) → (slice_ind
 -- the rows wait behind the others, and the rest is as before
 pub record HasJoined (rows : List Row) (slot after : Slot) : Type 0 where
   pub unit : after.unit ≡ slot.unit
-  pub waiting : after.waiting.items ≡ slot.waiting.items ++ rows
+  pub waiting : after.waiting ≡ slot.waiting ++ rows
   pub forward : after.forward ≡ slot.forward
   pub back : after.back ≡ slot.back
 

@@ -8,6 +8,7 @@ ghost use Rattle.reduction_core.specs.KeptBoard.{IsBoard};
 ghost use Rattle.reduction_core.specs.Records.{event_of, IsAccepted};
 ghost use Rattle.reduction_core.specs.Applying.{IsChangedAt, IsChangedFor, IsAfter, HasForward, HasBack, IsRestFor};
 
+use crate::listed::ListedRows;
 use crate::records::Record;
 use crate::slots::{Slot, joined, place_of};
 use integral_index::{Order, Unit};
@@ -45,7 +46,8 @@ fn after_forward(
     requires rest { IsRestFor order unit (units_of slots.items) rest.items }
     ensures { IfOk result (λ after. IsAfterForward order unit rows.items rest.items (state_of slots.items) (state_of after.items)) }
 {
-    set_forward(&mut slots, unit, rows);
+    let listed = ListedRows::of(rows)?;
+    set_forward(&mut slots, unit, listed);
     joined(slots, rest, order)
 }
 
@@ -60,10 +62,10 @@ fn after_back(mut slots: Vec<Slot>, unit: Unit, rows: Vec<Row>) -> Vec<Slot>
 }
 
 // Puts the forward rows into the slot of the unit, in which nothing waits any more.
-fn set_forward(slots: &mut Vec<Slot>, unit: Unit, rows: Vec<Row>)
+fn set_forward(slots: &mut Vec<Slot>, unit: Unit, rows: ListedRows)
     requires ascend { Ascends (units_of slots.old.items) }
     requires listed { Contains (units_of slots.old.items) unit }
-    ensures { AllZip (IsChangedFor (HasForward rows.items) unit) slots.old.items slots.new.items }
+    ensures { AllZip (IsChangedFor (HasForward rows) unit) slots.old.items slots.new.items }
 {
     match place_of(slots, unit) {
         Some(place) => set_forward_at(slots, place, rows),
@@ -71,12 +73,13 @@ fn set_forward(slots: &mut Vec<Slot>, unit: Unit, rows: Vec<Row>)
     }
 }
 
-fn set_forward_at(slots: &mut Vec<Slot>, place: usize, rows: Vec<Row>)
+fn set_forward_at(slots: &mut Vec<Slot>, place: usize, rows: ListedRows)
     requires { place < length slots.old.items }
-    ensures { IsChangedAt (HasForward rows.items) place slots.old.items slots.new.items }
+    ensures { IsChangedAt (HasForward rows) place slots.old.items slots.new.items }
 {
+    let alloc = *slots.allocator();
     let slot = &mut slots[place];
-    slot.waiting = Vec::new(*rows.allocator());
+    slot.waiting = ListedRows::new(alloc);
     slot.forward = Some(rows);
 }
 

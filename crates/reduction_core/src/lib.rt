@@ -8,6 +8,7 @@ mod ascending;
 mod board;
 pub mod checks;
 pub mod laws;
+mod listed;
 mod opening;
 mod plain;
 mod records;

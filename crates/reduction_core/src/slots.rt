@@ -6,17 +6,19 @@ ghost use Rattle.sector_machine.specs.Machine.{Ascends, back_rows, forward_count
 ghost use Rattle.sparse_row.specs.Row.{IsRow};
 ghost use Rattle.reduction_core.specs.Slots.{units_of, state_of, IsUnitAt, IsPushedAt, IsJoined, HaveListedUnits};
 
+use crate::listed::ListedRows;
 use integral_index::{Order, Unit};
 use out_of_memory::OutOfMemory;
 use sparse_row::Row;
 use std::alloc::Global;
+use std::mem;
 
 /// A unit with the rows that wait at it, and its forward rows and back rows where it has them.
 #[derive(Debug, Drop)]
 pub(crate) struct Slot {
     pub(crate) unit: Unit,
-    pub(crate) waiting: Vec<Row>,
-    pub(crate) forward: Option<Vec<Row>>,
+    pub(crate) waiting: ListedRows,
+    pub(crate) forward: Option<ListedRows>,
     pub(crate) back: Option<Vec<Row>>,
 }
 
@@ -125,6 +127,9 @@ fn push_at(slots: &mut Vec<Slot>, place: usize, row: Row) -> Result<(), OutOfMem
     requires { place < length slots.old.items }
     ensures { OnOk result (IsPushedAt place row slots.old.items slots.new.items) }
 {
-    slots[place].waiting.push(row)?;
+    let alloc = *slots.allocator();
+    let slot = &mut slots[place];
+    let waiting = mem::replace(&mut slot.waiting, ListedRows::new(alloc));
+    slot.waiting = waiting.with(row)?;
     Ok(())
 }

@@ -12,4 +12,4 @@ loop-unit-preserved c =
     let d : Unit = record { family = 0; sector = 0 } in
     rw c.in_ok-push.ensures.items
     (slots_more units n d c.loop-unit.slots.items _ c.loop-unit-test.true c.loop-unit.invariant
-    (record { unit_is = same_at units n _ d c.loop-unit-test.true; waiting = c.new.ensures.items; forward = refl; back = refl }))
+    (record { unit_is = same_at units n _ d c.loop-unit-test.true; waiting = c.new.ensures; forward = refl; back = refl }))

@@ -3,7 +3,7 @@ use Rattle.std.proofs.Common.{rules}
 use Rattle.std.proofs.lemmas.Fn.{always_returns_same}
 use Rattle.integral_index.specs.Order.{unit_compare}
 use Rattle.reduction_core.proofs.OpeningLemmas.{unit_there, unit_inserted}
-use Rattle.reduction_core.proofs.opening.list_unit.Goals as goal
+use Rattle.reduction_core.proofs.listed.list_unit.Goals as goal
 
 pub returns-in-Ok : goal.returns-in-Ok
 returns-in-Ok c =

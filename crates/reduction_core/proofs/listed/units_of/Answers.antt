@@ -3,7 +3,7 @@ use Rattle.std.proofs.Common.{subst, arith}
 use Rattle.std.proofs.lemmas.List.{take_all}
 use Rattle.sector_machine.specs.Machine.{AreUnitsOf}
 use Rattle.reduction_core.proofs.OpeningLemmas.{units_more}
-use Rattle.reduction_core.proofs.opening.units_of.Goals as goal
+use Rattle.reduction_core.proofs.listed.units_of.Goals as goal
 
 pub loop-row-preserved : goal.loop-row-preserved
 loop-row-preserved c =

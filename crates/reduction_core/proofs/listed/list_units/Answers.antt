@@ -1,7 +1,7 @@
 -- What the row shows are its terms.
 use Rattle.std.proofs.Common.{arith}
 use Rattle.reduction_core.proofs.OpeningLemmas.{listed_none, listed_more, listed_row}
-use Rattle.reduction_core.proofs.opening.list_units.Goals as goal
+use Rattle.reduction_core.proofs.listed.list_units.Goals as goal
 
 pub loop-term-preserved : goal.loop-term-preserved
 loop-term-preserved c =
