@@ -8,6 +8,8 @@ pub mod TableRows
 pub mod CheckLemmas
 pub mod SlotLemmas
 pub mod ApplyLemmas
+pub mod ReadyLemmas
+pub mod TurnLemmas
 pub mod BoardLemmas
 pub mod OpeningLemmas
 pub mod AscendingLemmas

@@ -11,5 +11,6 @@ pub mod Applying
 pub mod Board
 pub mod KeptBoard
 pub mod Opening
+pub mod Ready
 pub mod Ascending
 pub mod Task

@@ -11,11 +11,13 @@ pub mod laws;
 mod listed;
 mod opening;
 mod plain;
+mod readiness;
 mod records;
 mod rows;
 mod slots;
 mod table;
 mod task;
+mod turns;
 
 pub use board::Board;
 pub use plain::reduce_plain;
