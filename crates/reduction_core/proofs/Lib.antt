@@ -10,3 +10,5 @@ pub mod SlotLemmas
 pub mod OpeningLemmas
 pub mod AscendingLemmas
 pub mod Tasks
+pub mod ReadyLemmas
+pub mod TurnLemmas

@@ -11,3 +11,4 @@ pub mod KeptBoard
 pub mod Opening
 pub mod Ascending
 pub mod Task
+pub mod Ready

@@ -4,8 +4,10 @@ use crate::ascending::ascending;
 use crate::opening::opened;
 use crate::slots::{self, Slot};
 use crate::table::Table;
+use crate::task::Task;
+use crate::turns::task_in_turn;
 use field_word::Modulus;
-use integral_index::Order;
+use integral_index::{Order, Unit};
 use out_of_memory::OutOfMemory;
 use sparse_row::Row;
 use std::alloc::Global;
@@ -37,12 +39,13 @@ impl Model for Board {
 }
 
 impl Board {
-    ghost use Rattle.std.specs.Prelude.{◌≡◌, ◌↔◌, List, length, All, IsTrue, IfOk};
+    ghost use Rattle.std.specs.Prelude.{◌≡◌, ◌↔◌, List, [], length, All, IsTrue, IfOk, MatchOption};
     ghost use Rattle.sparse_row.specs.Row.{Row as RowValue, IsRow};
     ghost use Rattle.sparse_row.specs.ReducedList.{IsReduced};
     ghost use Rattle.sector_machine.specs.Machine.{Opens, IsDone, forward_count, back_count};
     ghost use Rattle.sector_machine.specs.Tasks.{IsTableOf};
     ghost use Rattle.sector_machine.specs.Invariant.{Holds};
+    ghost use Rattle.reduction_core.specs.Ready.{NoForward, NoBack, IsReady};
 
     /// The opening of the rows: each waits at the unit of its greatest integral. Empty rows are dropped.
     pub fn open(
@@ -91,6 +94,20 @@ impl Board {
         ensures { IsTrue result ↔ IsDone self.now.state }
     {
         self.back_count() == self.unit_count()
+    }
+
+    /// The task of the greatest unit outside the busy ones for which a forward event may happen; where
+    /// there is none, of the least unit outside them for which a back event may happen. `None` exactly
+    /// where there is neither, and with nothing busy exactly where the board is done.
+    pub fn ready(&self, busy: &[Unit]) -> Result<Option<Task>, OutOfMemory>
+        ensures task { IfOk result (λ ready. MatchOption ready
+            (NoForward self.now.order self.now.state busy.now × NoBack self.now.state busy.now)
+            (λ task. (task.modulus ≡ self.now.modulus)
+            × IsReady self.now.order self.now.state busy.now task.work)) }
+        ensures done { IfOk result (λ ready. busy.now ≡ [] → (ready ≡ None) ↔ IsDone self.now.state) }
+    {
+        let alloc = *self.slots.allocator();
+        task_in_turn(alloc, &self.slots, busy, self.order, self.modulus)
     }
 
     /// The table of the back rows, ascending. It is the reduced list of all equations from whose

@@ -8,11 +8,13 @@ pub mod checks;
 pub mod laws;
 mod opening;
 mod plain;
+mod readiness;
 mod records;
 mod rows;
 mod slots;
 mod table;
 mod task;
+mod turns;
 
 pub use board::Board;
 pub use plain::reduce_plain;

@@ -71,6 +71,15 @@ pub(crate) fn push_copies(made: &mut Vec<Row>, rows: &[Row]) -> Result<(), OutOf
     Ok(())
 }
 
+/// Copies of the rows.
+pub(crate) fn copies(alloc: Global, rows: &[Row]) -> Result<Vec<Row>, OutOfMemory>
+    ensures { IfOk result (λ made. made.items ≡ rows.now) }
+{
+    let mut made = Vec::with_capacity(alloc, rows.len())?;
+    push_copies(&mut made, rows)?;
+    Ok(made)
+}
+
 /// Copies of the back rows of all units.
 pub(crate) fn back_rows(alloc: Global, slots: &[Slot]) -> Result<Vec<Row>, OutOfMemory>
     requires { Ascends (units_of slots.now) }
