@@ -14,3 +14,4 @@ pub mod Opening
 pub mod Ready
 pub mod Ascending
 pub mod Task
+pub mod Ready
