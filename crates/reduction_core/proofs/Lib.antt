@@ -8,6 +8,7 @@ pub mod TableRows
 pub mod CheckLemmas
 pub mod SlotLemmas
 pub mod ApplyLemmas
+pub mod AcceptingLemmas
 pub mod ReadyLemmas
 pub mod TurnLemmas
 pub mod BoardLemmas

@@ -1,4 +1,5 @@
 pub mod Acceptance
+pub mod Accepting
 pub mod Checks
 pub mod KeptTable
 pub mod KeptTask

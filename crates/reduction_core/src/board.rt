@@ -1,5 +1,6 @@
 //! The board of a reduction: a state of the machine of units, with its modulus and order.
 
+use crate::accepting::accepts;
 use crate::applying::after_record;
 use crate::ascending::ascending;
 use crate::opening::opened;
@@ -113,6 +114,18 @@ impl Board {
     {
         let alloc = *self.slots.allocator();
         task_in_turn(alloc, &self.slots, busy, self.order, self.modulus)
+    }
+
+    /// Whether the record is accepted: its event may happen for its unit, its rows have distinct pivots of
+    /// the unit, each 1 and in no other of them, and all of its rows have this board's order, residues as
+    /// coefficients, and integrals that the rows of the event show. A rest shows nothing of the unit, and
+    /// no row of it is empty; back rows have the pivots of the forward rows, and show no pivot of another
+    /// unit's back rows. A record that meets its event is accepted: see
+    /// `sector_machine::laws::accepted_rows_keep_the_rows`. It takes no memory.
+    pub fn accepts(&self, entry: &Record) -> bool
+        ensures { IsTrue result ↔ IsAccepted self.now.modulus self.now.order self.now.state entry.now }
+    {
+        accepts(&self.slots, entry, self.order, &self.modulus)
     }
 
     /// The board after the event of the record. A record is accepted where its event may happen, and its

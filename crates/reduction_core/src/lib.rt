@@ -3,6 +3,7 @@
 #![tactic(auto)]
 
 mod acceptance;
+mod accepting;
 mod applying;
 mod ascending;
 mod board;
