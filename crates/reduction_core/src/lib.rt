@@ -19,4 +19,6 @@ pub use table::Table;
 pub use task::{Task, Work};
 
 #[cfg(test)]
+mod task_tests;
+#[cfg(test)]
 mod tests;
