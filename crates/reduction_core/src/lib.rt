@@ -29,4 +29,6 @@ pub use table::Table;
 pub use task::{Task, Work};
 
 #[cfg(test)]
+mod task_tests;
+#[cfg(test)]
 mod tests;

@@ -17,8 +17,9 @@ use std::test::Fail;
 
 // What a helper of the tests may answer.
 #[derive(Debug, Drop)]
-enum Wrong {
+pub(crate) enum Wrong {
     Indices,
+    Task,
     Multipliers,
     Scan,
     OutOfMemory,
@@ -45,7 +46,7 @@ fn integral(alloc: Global, width: usize, indices: &[i8]) -> Result<Integral, Wro
 }
 
 // The row of these terms.
-fn row_of(
+pub(crate) fn row_of(
     alloc: Global,
     width: usize,
     terms: &[([i8; 3], u64)],
@@ -62,7 +63,7 @@ fn row_of(
     Ok(row)
 }
 
-fn rows_of(
+pub(crate) fn rows_of(
     alloc: Global,
     width: usize,
     equations: &[&[([i8; 3], u64)]],

@@ -1,7 +1,7 @@
 -- The rows meet the conditions in their own order, and what they become holds in each order that they meet.
-use Rattle.std.proofs.Common.{◌≡◌, ◌∙◌, List, ap, sym, subst}
+use Rattle.std.proofs.Common.{◌∙◌, List, ap}
 use Rattle.sparse_row.specs.Row.{Row}
-use Rattle.reduction_core.specs.Task.{Task, IsOutcome, MeetsTask}
+use Rattle.reduction_core.specs.Task.{Task}
 use Rattle.reduction_core.specs.declared.task.Work.TheVariants as work
 use Rattle.reduction_core.proofs.Tasks.{meet_in_order, substitution_met}
 use Rattle.reduction_core.proofs.task.substituted.Goals as goal
