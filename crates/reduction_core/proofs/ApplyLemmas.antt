@@ -193,7 +193,7 @@ is_after_forward order unit rows rest slots middle after ascend listed may chang
     let are_rows = outside_row may.p order unit rest may.outside in
     let waiting = waiting_joined may.p order rest middle after ascend_middle are_rows listed_middle joined in
     let own : rows_at (by_unit waiting_of middle) unit ≡ [] =
-        ap (λ o. unwrap_or o []) (get_own waiting_of (HasForward rows) unit slots middle ascend changed None (λ slot next has. ap unless_empty has.waiting) listed) in
+    ap (λ o. unwrap_or o []) (get_own waiting_of (HasForward rows) unit slots middle ascend changed None (λ slot next has. ap unless_empty has.waiting) listed) in
     record {
       units = joined_units order rest middle after joined ∙ same;
       taken = waiting unit ∙ (λ i. unless_empty (own i ++ none_of_rest may.p order unit rest may.outside i));

@@ -101,24 +101,25 @@ module _ (order : Order) (slots : List Slot) (place : ℕ) (slot d : Slot) (held
       let ascend = held_ascend order slots held in
       let taken : (s : Slot) (row : Row) → Contains slots s → Contains s.waiting row → HasGreatestIn order s.unit row =
       λ s row member waits. (waiting_taken held.0 order held.1 (state_of slots) held.2 s.unit row (slot_waits slots s row ascend member waits)).greatest in
-      subst (λ s. IsTrue b ↔ MayForward order s.unit (state_of slots)) (sym own)
-      (λ yes.
-           record {
-             listed = unit_listed slots slot own_member;
-             new = got forward_of ∙ none;
-             alone = λ row x (unit, member) shows of_unit.
-                 let found = waits_in_slot slots unit row ascend member in
-                 let s = found.0 in
-                 elim (unit_cases s.unit slot.unit) [
-                   | inl same ↦ subst (λ u. HasGreatestIn order u row) same (taken s row found.1 found.2)
-                   | inr differ ↦ absurd (All-contains (LeavesAlone slot.unit) slots s (says.0 yes) found.1 differ (x, (row, found.2, shows), of_unit))
-                 ];
-           },
-       λ may.
-           says.1
-           (All-from_members (LeavesAlone slot.unit) slots
-           (λ s member differ (x, (row, waits, shows), of_unit).
-           differ (one_unit order row s.unit slot.unit (taken s row member waits) (may.alone row x (s.unit, slot_waits slots s row ascend member waits) shows of_unit)))))
+      subst (λ s. IsTrue b ↔ MayForward order s.unit (state_of slots)) (sym own) (
+        λ yes.
+            record {
+              listed = unit_listed slots slot own_member;
+              new = got forward_of ∙ none;
+              alone = λ row x (unit, member) shows of_unit.
+                  let found = waits_in_slot slots unit row ascend member in
+                  let s = found.0 in
+                  elim (unit_cases s.unit slot.unit) [
+                    | inl same ↦ subst (λ u. HasGreatestIn order u row) same (taken s row found.1 found.2)
+                    | inr differ ↦ absurd (All-contains (LeavesAlone slot.unit) slots s (says.0 yes) found.1 differ (x, (row, found.2, shows), of_unit))
+                  ];
+            },
+        λ may.
+            says.1
+            (All-from_members (LeavesAlone slot.unit) slots
+            (λ s member differ (x, (row, waits, shows), of_unit).
+            differ (one_unit order row s.unit slot.unit (taken s row member waits) (may.alone row x (s.unit, slot_waits slots s row ascend member waits) shows of_unit)))),
+      )
 
   pub may_forward_not : (rows : List Row) → forward_of slot ≡ Some rows → ¬ (MayForward order (get_or slots place d).unit (state_of slots))
   may_forward_not rows some may =
@@ -131,19 +132,20 @@ module _ (order : Order) (slots : List Slot) (place : ℕ) (slot d : Slot) (held
       let has : finite.get (by_unit forward_of slots) slot.unit ≡ Some rows = got forward_of ∙ some in
       let are : rows_at (by_unit forward_of slots) slot.unit ≡ rows = ap (λ o. unwrap_or o []) has in
       let Done = IsDoneAt (by_unit back_of slots) slot.unit in
-      subst (λ s. IsTrue b ↔ MayBack s.unit (state_of slots)) (sym own)
-      (λ yes.
-           record {
-             eliminated = λ e. absurd (cc);
-             new = got back_of ∙ ap (option_map (λ rs. rs.items)) none;
-             lesser = λ row x member shows. All-contains Done units (unit_of x) (says.0 yes) (are_units.all x (row, subst (λ rs. Contains rs row) are member, shows));
-           },
-       λ may.
-           says.1
-           (All-from_members Done units
-           (λ other member.
-           let (x, (row, is, shows), same) = are_units.only other member in
-           subst Done same (may.lesser row x (subst (λ rs. Contains rs row) (sym are) is) shows))))
+      subst (λ s. IsTrue b ↔ MayBack s.unit (state_of slots)) (sym own) (
+        λ yes.
+            record {
+              eliminated = λ e. absurd (cc);
+              new = got back_of ∙ ap (option_map (λ rs. rs.items)) none;
+              lesser = λ row x member shows. All-contains Done units (unit_of x) (says.0 yes) (are_units.all x (row, subst (λ rs. Contains rs row) are member, shows));
+            },
+        λ may.
+            says.1
+            (All-from_members Done units
+            (λ other member.
+            let (x, (row, is, shows), same) = are_units.only other member in
+            subst Done same (may.lesser row x (subst (λ rs. Contains rs row) (sym are) is) shows))),
+      )
 
   pub may_back_not_done : (rows : List Row) → back_of slot ≡ Some rows → ¬ (MayBack (get_or slots place d).unit (state_of slots))
   may_back_not_done rows some may =

@@ -79,13 +79,7 @@ fn accepts_forward_at(
     fit_forward(slot.waiting.rows(), rows, rest, slot.unit, order, modulus)
 }
 
-fn accepts_back(
-    slots: &[Slot],
-    unit: Unit,
-    rows: &[Row],
-    order: Order,
-    modulus: &Modulus,
-) -> bool
+fn accepts_back(slots: &[Slot], unit: Unit, rows: &[Row], order: Order, modulus: &Modulus) -> bool
     requires { (equations : List RowValue) × HoldsOfRows modulus.now order equations (state_of slots.now) }
     ensures { IsTrue result ↔ IsAcceptedBack modulus.now order (state_of slots.now) unit rows.now }
 {

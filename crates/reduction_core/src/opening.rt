@@ -16,11 +16,7 @@ use sparse_row::Row;
 use std::alloc::Global;
 
 /// The slots of the opening of the rows.
-pub(crate) fn opened(
-    alloc: Global,
-    rows: Vec<Row>,
-    order: Order,
-) -> Result<Vec<Slot>, OutOfMemory>
+pub(crate) fn opened(alloc: Global, rows: Vec<Row>, order: Order) -> Result<Vec<Slot>, OutOfMemory>
     requires { (p : ℕ) × All (IsRow p order) rows.items }
     ensures { IfOk result (λ slots. (p : ℕ) → All (IsRow p order) rows.items →
         Opens p order rows.items (state_of slots.items)) }

@@ -18,7 +18,7 @@ pub(crate) fn forward_turn(slots: &[Slot], busy: &[Unit], order: Order) -> Optio
     ensures { MatchOption result
         (NoForward order (state_of slots.now) busy.now)
         (λ place. (place < length slots.now) × ((d : SlotValue) →
-            IsForwardTurn order (state_of slots.now) busy.now (slice_index_or slots.now place d).unit)) }
+        IsForwardTurn order (state_of slots.now) busy.now (slice_index_or slots.now place d).unit)) }
 {
     let mut place = slots.len();
     while place > 0 {
@@ -36,7 +36,7 @@ pub(crate) fn back_turn(slots: &[Slot], busy: &[Unit], order: Order) -> Option<u
     ensures { MatchOption result
         (NoBack (state_of slots.now) busy.now)
         (λ place. (place < length slots.now) × ((d : SlotValue) →
-            IsBackTurn (state_of slots.now) busy.now (slice_index_or slots.now place d).unit)) }
+        IsBackTurn (state_of slots.now) busy.now (slice_index_or slots.now place d).unit)) }
 {
     for place in 0..slots.len() {
         if goes_back(slots, place, busy, order) {

@@ -87,12 +87,7 @@ fn back_task(
 }
 
 // Copies of the back rows whose pivots the rows show.
-fn below(
-    alloc: Global,
-    slots: &[Slot],
-    rows: &[Row],
-    order: Order,
-) -> Result<Vec<Row>, OutOfMemory>
+fn below(alloc: Global, slots: &[Slot], rows: &[Row], order: Order) -> Result<Vec<Row>, OutOfMemory>
     requires { AreHeld order slots.now }
     ensures { IfOk result (λ below.
         below.items ≡ filter (shows_pivot_of order rows.now) (back_rows (state_of slots.now))) }

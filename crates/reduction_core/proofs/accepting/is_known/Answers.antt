@@ -15,8 +15,7 @@ returns-then-is_shown_by_some c =
 pub returns : goal.returns
 returns c =
     let back = back_rows (state_of c.args.slots.now) in
-    let none = untrue c.is_shown_by_some.result (IsShownBySome c.args.forward.now c.args.x.now) c.if-is_shown_by_some.false c.is_shown_by_some.ensures in
-    (
+    let none = untrue c.is_shown_by_some.result (IsShownBySome c.args.forward.now c.args.x.now) c.if-is_shown_by_some.false c.is_shown_by_some.ensures in (
       λ test. shown_behind c.args.forward.now back c.args.x.now (c.is_shown_by_back.ensures.0 test),
       λ shown. c.is_shown_by_back.ensures.1 (shown_right c.args.forward.now back c.args.x.now none shown),
     )

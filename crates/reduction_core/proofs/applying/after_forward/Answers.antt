@@ -20,7 +20,7 @@ pub returns : goal.returns
 returns c =
     let slots = c.args.slots.items in
     let changed : AllZip (IsChangedFor (HasForward c.args.rows.items) c.args.unit) slots c.set_forward.new.slots.items =
-        subst (λ rows. AllZip (IsChangedFor (HasForward rows) c.args.unit) slots c.set_forward.new.slots.items) c.in_ok-listed.ensures c.set_forward.ensures in
+    subst (λ rows. AllZip (IsChangedFor (HasForward rows) c.args.unit) slots c.set_forward.new.slots.items) c.in_ok-listed.ensures c.set_forward.ensures in
     IfOk-weaker c.joined.result (λ after. AllZip (IsJoined c.args.order c.args.rest.items) c.set_forward.new.slots.items after.items)
     (λ after. IsAfterForward c.args.order c.args.unit c.args.rows.items c.args.rest.items (state_of slots) (state_of after.items))
     (λ after joined. is_after_forward c.args.order c.args.unit c.args.rows.items c.args.rest.items slots c.set_forward.new.slots.items after.items c.requires.ascend c.requires.listed c.requires.rest changed joined)

@@ -17,11 +17,10 @@ pub loop-place-preserved : goal.loop-place-preserved
 loop-place-preserved c =
     let place = c.loop-place.place - 1 in
     let next : c.loop-place.place ≡ place + 1 = omega (arith, c.loop-place-test.true) in
-    let above : NoneFrom c.args.order c.args.slots.now c.args.busy.now (place + 1) = subst (NoneFrom c.args.order c.args.slots.now c.args.busy.now) next c.loop-place.invariant.1 in
-    (
+    let above : NoneFrom c.args.order c.args.slots.now c.args.busy.now (place + 1) = subst (NoneFrom c.args.order c.args.slots.now c.args.busy.now) next c.loop-place.invariant.1 in (
       omega (arith, c.loop-place.invariant.0),
       none_from_more c.args.order c.args.slots.now c.args.busy.now place above
-      (λ d. untrue c.goes_forward.result (GoesForward c.args.order c.args.slots.now c.args.busy.now place d) c.if-goes_forward.false (c.goes_forward.ensures d)),
+          (λ d. untrue c.goes_forward.result (GoesForward c.args.order c.args.slots.now c.args.busy.now place d) c.if-goes_forward.false (c.goes_forward.ensures d)),
     )
 
 pub returns : goal.returns

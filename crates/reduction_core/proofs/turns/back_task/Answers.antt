@@ -28,8 +28,7 @@ back-requires c =
     ∙ sym (slot_rows p order c.requires.held.0 slots c.args.place slot holds c.requires.place c.index-slots-place.is forward_of ∙ ap (λ o. unwrap_or o []) c.in-Some.is) in
     let below : c.in_ok-below-in-Some.below.items ≡ below_of order (state_of slots) slot.unit =
     c.in_ok-below-in-Some.ensures ∙ ap (λ rows. filter (shows_pivot_of order rows) (back_rows (state_of slots))) (c.deref.ensures.value ∙ are) in
-    let turn : IsBackTurn (state_of slots) c.args.busy.now slot.unit = subst (λ s. IsBackTurn (state_of slots) c.args.busy.now s.unit) (sym c.index-slots-place.is) (c.requires.turn slot) in
-    (
+    let turn : IsBackTurn (state_of slots) c.args.busy.now slot.unit = subst (λ s. IsBackTurn (state_of slots) c.args.busy.now s.unit) (sym c.index-slots-place.is) (c.requires.turn slot) in (
       order,
       subst (AreRules p order slot.unit) (sym are) (holds.forward slot.unit),
       subst (AreBelow p order slot.unit) (sym below) (are_below p order c.requires.held.0 slot.unit (state_of slots) holds turn.may),

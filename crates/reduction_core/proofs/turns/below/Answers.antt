@@ -12,11 +12,10 @@ use Rattle.reduction_core.proofs.turns.below.Goals as goal
 
 pub push_shown-requires : goal.push_shown-requires
 push_shown-requires c =
-    let p = c.requires.0 in
-    (
+    let p = c.requires.0 in (
       p,
       subst (All (IsRow p c.args.order)) (sym c.deref.ensures.value)
-      (back_rules_are_rows p c.args.order c.requires.1 c.args.slots.now c.loop-slot.slot-index c.slot-item.result c.requires.2 c.loop-slot-test.true c.slot-item.is c.in-Some.rules.items (ap (option_map (λ rows. rows.items)) c.in-Some.is)),
+          (back_rules_are_rows p c.args.order c.requires.1 c.args.slots.now c.loop-slot.slot-index c.slot-item.result c.requires.2 c.loop-slot-test.true c.slot-item.is c.in-Some.rules.items (ap (option_map (λ rows. rows.items)) c.in-Some.is)),
     )
 
 pub returns : goal.returns
