@@ -15,4 +15,3 @@ pub mod Opening
 pub mod Ready
 pub mod Ascending
 pub mod Task
-pub mod Ready

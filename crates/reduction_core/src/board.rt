@@ -46,10 +46,11 @@ impl Board {
     ghost use Rattle.std.specs.Prelude.{◌≡◌, ◌↔◌, None, List, [], length, All, IsTrue, IfOk, OnOk, MatchOption};
     ghost use Rattle.sparse_row.specs.Row.{Row as RowValue, IsRow};
     ghost use Rattle.sparse_row.specs.ReducedList.{IsReduced};
-    ghost use Rattle.sector_machine.specs.Machine.{Opens, IsDone, forward_count, back_count};
+    ghost use Rattle.sector_machine.specs.State.{State};
+    ghost use Rattle.sector_machine.specs.Machine.{Opens, Leads, IsDone, forward_count, back_count};
     ghost use Rattle.sector_machine.specs.Tasks.{IsTableOf};
     ghost use Rattle.sector_machine.specs.Invariant.{Holds};
-    ghost use Rattle.reduction_core.specs.Records.{event_of, IsAccepted};
+    ghost use Rattle.reduction_core.specs.Records.{event_of, IsAccepted, IsComputed};
     ghost use Rattle.reduction_core.specs.Applying.{IsAfter};
     ghost use Rattle.reduction_core.specs.Ready.{NoForward, NoBack, IsReady};
 
@@ -120,23 +121,24 @@ impl Board {
     /// the unit, each 1 and in no other of them, and all of its rows have this board's order, residues as
     /// coefficients, and integrals that the rows of the event show. A rest shows nothing of the unit, and
     /// no row of it is empty; back rows have the pivots of the forward rows, and show no pivot of another
-    /// unit's back rows. A record that meets its event is accepted: see
-    /// `sector_machine::laws::accepted_rows_keep_the_rows`. It takes no memory.
+    /// unit's back rows. A record that meets its event is accepted. It takes no memory.
     pub fn accepts(&self, entry: &Record) -> bool
-        ensures { IsTrue result ↔ IsAccepted self.now.modulus self.now.order self.now.state entry.now }
+        ensures value { IsTrue result ↔ IsAccepted self.now.modulus self.now.order self.now.state entry.now }
+        ensures event { (after : State) → Leads self.now.modulus self.now.order (event_of entry.now) self.now.state after →
+            IsTrue result }
     {
         accepts(&self.slots, entry, self.order, &self.modulus)
     }
 
-    /// The board after the event of the record. A record is accepted where its event may happen, and its
-    /// rows are such as an event may have; whether they have the right span its type doesn't tell. Where
-    /// they have, as `Task::compute` says of the records that it gives, the machine goes on by this
-    /// event: see `sector_machine::laws::computed_rows_serve`.
+    /// The board with the rows of the record, which is accepted. Where they were computed from the task of
+    /// the unit, as `Task::compute` says of the records that it gives, it is the board after the event.
     ///
     /// After `OutOfMemory` the board has no units, and is to be opened again.
     pub fn apply(&mut self, entry: Record) -> Result<(), OutOfMemory>
         requires { IsAccepted self.old.modulus self.old.order self.old.state entry }
         ensures after { OnOk result (IsAfter self.old.order (event_of entry) self.old.state self.new.state) }
+        ensures event { OnOk result (IsComputed self.old.modulus self.old.order self.old.state entry →
+            Leads self.old.modulus self.old.order (event_of entry) self.old.state self.new.state) }
         ensures modulus { self.new.modulus ≡ self.old.modulus }
         ensures order { self.new.order ≡ self.old.order }
     {

@@ -1,6 +1,5 @@
 -- The first slot whose back rows have a pivot that is shown settles the answer.
 use Rattle.std.proofs.Common.{All, sym}
-use Rattle.std.proofs.lemmas.List.Elements.{Contains-get_or}
 use Rattle.back_substitute.specs.Substitution.{ShowsNoPivotOf}
 use Rattle.sector_machine.specs.Machine.{back_rows}
 use Rattle.reduction_core.specs.Slots.{state_of}

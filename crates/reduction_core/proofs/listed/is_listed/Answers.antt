@@ -1,5 +1,5 @@
 -- The search ends at the unit, or between the lesser and the greater ones.
-use Rattle.std.proofs.Common.{rules, refl, sym, subst}
+use Rattle.std.proofs.Common.{rules, refl}
 use Rattle.std.proofs.lemmas.Fn.{always_returns_same}
 use Rattle.integral_index.specs.Order.{unit_compare}
 use Rattle.reduction_core.proofs.OpeningLemmas.{unit_is_listed, unit_is_unlisted}

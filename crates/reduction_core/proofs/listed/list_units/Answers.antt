@@ -1,6 +1,6 @@
 -- What the row shows are its terms.
 use Rattle.std.proofs.Common.{arith}
-use Rattle.reduction_core.proofs.OpeningLemmas.{listed_none, listed_more, listed_row}
+use Rattle.reduction_core.proofs.OpeningLemmas.{listed_more, listed_row}
 use Rattle.reduction_core.proofs.listed.list_units.Goals as goal
 
 pub loop-term-preserved : goal.loop-term-preserved

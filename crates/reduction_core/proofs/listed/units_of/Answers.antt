@@ -1,7 +1,4 @@
 -- Each row adds the units of what it shows.
-use Rattle.std.proofs.Common.{subst, arith}
-use Rattle.std.proofs.lemmas.List.{take_all}
-use Rattle.sector_machine.specs.Machine.{AreUnitsOf}
 use Rattle.reduction_core.proofs.OpeningLemmas.{units_more}
 use Rattle.reduction_core.proofs.listed.units_of.Goals as goal
 

@@ -1,5 +1,4 @@
 -- The first that may go is the least.
-use Rattle.std.proofs.Common.{arith}
 use Rattle.reduction_core.proofs.CheckLemmas.{untrue}
 use Rattle.reduction_core.specs.Ready.{GoesBack}
 use Rattle.reduction_core.proofs.ReadyLemmas.{none_before_more, no_back, is_back_turn}

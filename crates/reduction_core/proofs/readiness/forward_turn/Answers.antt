@@ -1,5 +1,5 @@
 -- The last that may go is the greatest.
-use Rattle.std.proofs.Common.{◌≡◌, ◌+◌, ◌-◌, ◌<◌, length, subst, sym, arith}
+use Rattle.std.proofs.Common.{◌≡◌, ◌+◌, ◌-◌, ◌<◌, length, subst, arith}
 use Rattle.reduction_core.proofs.CheckLemmas.{untrue}
 use Rattle.reduction_core.specs.Ready.{GoesForward}
 use Rattle.reduction_core.proofs.ReadyLemmas.{NoneFrom, none_from_more, no_forward, is_forward_turn}

@@ -1,8 +1,7 @@
 -- Both are asked.
-use Rattle.std.proofs.Common.{Contains, IsTrue}
+use Rattle.std.proofs.Common.{Contains}
 use Rattle.sector_machine.specs.Machine.{MayBack}
 use Rattle.reduction_core.specs.Slots.{state_of}
-use Rattle.reduction_core.specs.Ready.{GoesBack}
 use Rattle.reduction_core.proofs.CheckLemmas.{untrue}
 use Rattle.reduction_core.proofs.ReadyLemmas.{at, both_tested}
 use Rattle.reduction_core.proofs.readiness.goes_back.Goals as goal

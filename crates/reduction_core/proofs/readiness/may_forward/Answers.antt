@@ -1,6 +1,5 @@
 -- The unit has no forward rows, and the waiting rows of others leave it alone.
 use Rattle.sector_machine.specs.Machine.{MayForward}
-use Rattle.reduction_core.specs.declared.slots.Slot.{Slot}
 use Rattle.reduction_core.specs.Slots.{state_of}
 use Rattle.reduction_core.proofs.CheckLemmas.{never}
 use Rattle.reduction_core.proofs.ReadyLemmas.{at, may_forward_tested, may_forward_not}

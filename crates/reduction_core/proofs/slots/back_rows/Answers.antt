@@ -1,8 +1,8 @@
 -- The rows of all units, slot by slot.
-use Rattle.std.proofs.Common.{◌≡◌, take, flat_map, sym, ap, ◌∙◌, arith}
+use Rattle.std.proofs.Common.{flat_map, sym, ap, ◌∙◌, arith}
 use Rattle.std.proofs.lemmas.List.{take_all}
 use Rattle.reduction_core.specs.Slots.{back_of}
-use Rattle.reduction_core.proofs.SlotLemmas.{part_rows, rows_of_slots, flat_more}
+use Rattle.reduction_core.proofs.SlotLemmas.{part_rows, rows_of_slots}
 use Rattle.reduction_core.proofs.slots.back_rows.Goals as goal
 
 pub returns : goal.returns

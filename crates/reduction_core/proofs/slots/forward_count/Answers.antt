@@ -1,5 +1,5 @@
 -- The units are counted slot by slot.
-use Rattle.std.proofs.Common.{◌≡◌, is_some, take, length, count_by, sym, ap, ◌∙◌, arith}
+use Rattle.std.proofs.Common.{is_some, count_by, sym, ap, ◌∙◌, arith}
 use Rattle.std.proofs.lemmas.List.{take_all}
 use Rattle.reduction_core.specs.Slots.{forward_of}
 use Rattle.reduction_core.proofs.SlotLemmas.{count_of_slots}

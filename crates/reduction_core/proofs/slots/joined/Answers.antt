@@ -1,5 +1,5 @@
 -- Each row joins what waits.
-use Rattle.std.proofs.Common.{◌≡◌, [], ◌++◌, ◌∷◌, All, Contains, refl, length, map-id, rules, sym, ap, subst, ◌∙◌, arith}
+use Rattle.std.proofs.Common.{◌≡◌, [], Contains, refl, length, map-id, rules, sym, subst, ◌∙◌}
 use Rattle.std.specs.List.{AllZip}
 use Rattle.std.proofs.lemmas.Iterator.Adapters.{YieldsList-from_vec}
 use Rattle.std.proofs.lemmas.Iterator.Consumers.{YieldsList-turn, YieldsList-end}
@@ -7,7 +7,7 @@ use Rattle.std.proofs.lemmas.List.Elements.{Contains-get_or}
 use Rattle.integral_index.specs.Order.{unit_of}
 use Rattle.sparse_row.specs.Row.{IsRow}
 use Rattle.sector_machine.specs.Machine.{Ascends}
-use Rattle.reduction_core.specs.Slots.{units_of, IsJoined}
+use Rattle.reduction_core.specs.Slots.{IsJoined}
 use Rattle.reduction_core.proofs.SlotLemmas.{joined_nothing, joined_units, joined_more, Contains-one}
 use Rattle.reduction_core.proofs.slots.joined.Goals as goal
 

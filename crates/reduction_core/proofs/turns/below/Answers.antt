@@ -1,5 +1,5 @@
 -- The back rows, slot by slot.
-use Rattle.std.proofs.Common.{All, filter, flat_map, take, sym, ap, subst, ◌∙◌, arith}
+use Rattle.std.proofs.Common.{All, filter, flat_map, sym, ap, subst, ◌∙◌, arith}
 use Rattle.std.specs.Option.{option_map}
 use Rattle.std.proofs.lemmas.List.{take_all}
 use Rattle.sparse_row.specs.Row.{IsRow}

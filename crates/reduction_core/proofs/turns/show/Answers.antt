@@ -1,5 +1,5 @@
 -- The first row that shows it settles the answer.
-use Rattle.std.proofs.Common.{◌≡◌, ◌≢◌, sym, ◌∙◌, arith}
+use Rattle.std.proofs.Common.{◌≡◌, ◌≢◌, arith}
 use Rattle.sparse_row.specs.Row.{coefficient}
 use Rattle.sector_forward.specs.Elimination.{IsShownBySome}
 use Rattle.reduction_core.proofs.CheckLemmas.{never, always, all_of_front, all_of_front_more}

@@ -1,10 +1,8 @@
 -- The back rows ascend in one way, and where the state is done they are the reduced list.
 use Rattle.std.proofs.Common.{◌≡◌, All, sym, ap, subst, ◌∙◌}
 use Rattle.sparse_row.specs.Row.{IsRow}
-use Rattle.sector_forward.specs.Elimination.{AreApart}
 use Rattle.sector_forward.specs.Steps.{HasPivot}
 use Rattle.sector_machine.specs.Machine.{back_rows, IsDone}
-use Rattle.sector_machine.specs.Tasks.{IsTableOf}
 use Rattle.sector_machine.proofs.Lists.{All-from_members}
 use Rattle.sector_machine.proofs.Rows.{back_are_rows, back_pivot}
 use Rattle.sector_machine.proofs.Done.{table_is_reduced}
