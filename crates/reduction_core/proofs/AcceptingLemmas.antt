@@ -1,13 +1,12 @@
 -- What the slots tell of all back rows.
-use Rattle.std.proofs.Common.{◌≡◌, ◌↔◌, ℕ, ◌<◌, IsTrue, Bool, unwrap_or, List, [], ◌∷◌, ◌++◌, length, get_or, All, Contains, flat_map, refl, sym, ap, subst, ◌∙◌, inl, inr}
-use Rattle.std.specs.FinMap as finite
+use Rattle.std.proofs.Common.{◌≡◌, ◌↔◌, ℕ, ◌<◌, IsTrue, Bool, unwrap_or, List, [], ◌++◌, length, get_or, All, Contains, flat_map, sym, ap, subst, ◌∙◌, inl, inr}
 use Rattle.std.proofs.lemmas.List.Elements.{All-contains, Contains-append_left, Contains-append_right, Contains-append_cases, Contains-get_or}
 use Rattle.integral_index.specs.declared.Order.{Order}
 use Rattle.integral_index.specs.declared.Unit.{Unit}
 use Rattle.integral_index.specs.Integral.{Integral}
-use Rattle.sparse_row.specs.Row.{Row, IsRow}
+use Rattle.sparse_row.specs.Row.{Row}
 use Rattle.sector_forward.specs.Elimination.{IsShownBySome}
-use Rattle.back_substitute.specs.Substitution.{AreRules, ShowsNoPivotOf}
+use Rattle.back_substitute.specs.Substitution.{ShowsNoPivotOf}
 use Rattle.sector_machine.specs.State.{rows_at}
 use Rattle.sector_machine.specs.Machine.{Ascends, back_rows, MayForward, MayBack}
 use Rattle.sector_machine.specs.Accepted.{IsAcceptedForward, IsAcceptedBack}

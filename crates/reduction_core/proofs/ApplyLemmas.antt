@@ -1,5 +1,5 @@
 -- The slots after an event, as a state of the machine.
-use Rattle.std.proofs.Common.{◌≡◌, ◌≢◌, ℕ, ◌<◌, true, false, cond, None, Some, Option, unwrap_or, List, [], ◌∷◌, ◌++◌, length, get_or, All, Contains, filter, refl, sym, ap, subst, ◌∙◌, ◌⊎◌, inl, inr, arith}
+use Rattle.std.proofs.Common.{◌≡◌, ◌≢◌, ℕ, true, false, None, Some, Option, unwrap_or, List, [], ◌∷◌, ◌++◌, length, get_or, All, Contains, filter, refl, sym, ap, subst, ◌∙◌, inl, inr, arith}
 use Rattle.std.specs.FinMap as finite
 use Rattle.std.specs.List.{AllZip}
 use Rattle.std.specs.Option.{option_map}
@@ -7,13 +7,12 @@ use Rattle.std.proofs.lemmas.Bool.{cases_eq}
 use Rattle.std.proofs.lemmas.List.Elements.{All-contains}
 use Rattle.integral_index.specs.declared.Order.{Order}
 use Rattle.integral_index.specs.declared.Unit.{Unit}
-use Rattle.integral_index.specs.Order.{unit_of, unit_compare}
 use Rattle.integral_index.proofs.Orders.{unit_compare-total, unit_compare-IsAntisymmetric}
 use Rattle.sparse_row.specs.Row.{Row, IsRow}
 use Rattle.sector_forward.specs.Elimination.{IsOutside}
 use Rattle.sector_forward.proofs.StepLemmas.{same_at}
 use Rattle.sector_forward.proofs.Members.{Contains-cons_cases, Contains-here, Contains-there}
-use Rattle.sector_machine.specs.State.{RowsByUnit, HasNone, rows_at, unless_empty, has_greatest_in}
+use Rattle.sector_machine.specs.State.{rows_at, unless_empty, has_greatest_in}
 use Rattle.sector_machine.specs.Machine.{Ascends, IsAfterForward, IsAfterBack}
 use Rattle.sector_machine.proofs.Lists.{Contains-none, none_kept}
 use Rattle.sector_machine.proofs.Units.{unit_cases, get_inserted, get_others, no_rows, rows_unless_empty}

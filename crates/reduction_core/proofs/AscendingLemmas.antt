@@ -1,12 +1,12 @@
 -- Rows put in ascending order, and the table of a board.
-use Rattle.std.proofs.Common.{◌≡◌, ◌≢◌, ℕ, ◌<◌, ◌≤◌, List, [], ◌∷◌, ◌++◌, length, get_or, All, Contains, sym, ap, subst, ◌∙◌, ◌⊎◌, inl, inr, arith}
+use Rattle.std.proofs.Common.{◌≡◌, ℕ, ◌<◌, List, [], ◌∷◌, ◌++◌, length, get_or, Contains, sym, ap, subst, ◌∙◌, inl, inr, arith}
 use Rattle.std.specs.List.{insert}
 use Rattle.std.specs.List.Sorted.{IsPermutation}
 use Rattle.std.proofs.lemmas.List.Elements.{Contains-get_or, Contains-append_left, Contains-append_right, Contains-append_cases}
 use Rattle.std.proofs.lemmas.List.Sorted.{IsPermutation-insert, IsPermutation-to_front, IsPermutation-trans, IsPermutation-sym, Contains-permutation}
 use Rattle.integral_index.specs.declared.Order.{Order}
 use Rattle.integral_index.specs.Integral.{Integral}
-use Rattle.sparse_row.specs.Row.{Row, coefficient, Shows, IsRow, IsGreatest, IsPivot}
+use Rattle.sparse_row.specs.Row.{Row, coefficient, IsRow, IsGreatest, IsPivot}
 use Rattle.sparse_row.specs.ReducedList.{IsEchelon}
 use Rattle.sparse_row.proofs.RowValues.{greatest_same}
 use Rattle.sector_forward.specs.Elimination.{AreApart}

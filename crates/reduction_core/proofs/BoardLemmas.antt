@@ -1,5 +1,5 @@
 -- What a board keeps when a record is applied.
-use Rattle.std.proofs.Common.{◌≡◌, ℕ, List, [], All, refl, arith}
+use Rattle.std.proofs.Common.{ℕ, List, [], refl, arith}
 use Rattle.std.specs.FinMap as finite
 use Rattle.std.proofs.lemmas.List.Elements.{Contains-append_right}
 use Rattle.field_word.specs.Residues.{IsModulus}

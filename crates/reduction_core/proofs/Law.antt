@@ -1,7 +1,7 @@
 -- Why there is only one reduced list, over functions from keys into the numbers: two lists that span each other, each
 -- with pivots that ascend and stand in no other function of the list, have the same functions.
-use Rattle.std.proofs.Common.{◌≡◌, ◌≢◌, ℕ, zero, suc, ◌*◌, ◌%◌, ◌<◌, List, length, refl, sym, ap, subst, ◌∙◌, ◌⊎◌, inl, inr, arith}
-use Rattle.std.proofs.Math.Nat.{zero-mod, mul-zero, zero-mul, mul-one, mod-eq_of_lt, suc-ne-zero}
+use Rattle.std.proofs.Common.{◌≡◌, ◌≢◌, ℕ, ◌*◌, ◌%◌, ◌<◌, List, length, refl, sym, ap, subst, ◌∙◌, inl, inr, arith}
+use Rattle.std.proofs.Math.Nat.{zero-mod, mul-zero, zero-mul, mul-one, mod-eq_of_lt}
 use Rattle.std.proofs.lemmas.Nat.{mul-mod_first}
 use Rattle.std.proofs.lemmas.Cmp.{tied_itself}
 use Rattle.std.proofs.lemmas.Bool.{cases_order, cases_eq}

@@ -3,18 +3,13 @@ use Rattle.std.proofs.Common.{◌≡◌, ◌≢◌, ℕ, ◌-◌, ◌%◌, Bool,
 use Rattle.std.specs.FinMap as map_of
 use Rattle.std.specs.FinMap.Entries.{find}
 use Rattle.std.specs.Option.{option_map}
-use Rattle.std.specs.Ordering.{is_eq, eq_by_cmp}
-use Rattle.std.specs.declared.cmp.Ordering.{Ordering}
-use Rattle.std.specs.declared.cmp.Ordering.TheVariants.{Less, Equal, Greater}
 use Rattle.std.proofs.Math.Nat.{sub-zero, mod_self}
-use Rattle.std.proofs.lemmas.Bool.{false≢true}
-use Rattle.std.proofs.lemmas.Cmp.{tied_itself}
 use Rattle.std.proofs.lemmas.List.Elements.{All-contains}
 use Rattle.integral_index.specs.declared.Order.{Order}
 use Rattle.integral_index.specs.Integral.{Integral, sector_of}
 use Rattle.integral_index.specs.Order.{by_fields, compare}
 use Rattle.integral_index.specs.ZeroSectors.{is_zero_sector}
-use Rattle.integral_index.proofs.Orders.{by_fields-total, by_fields-IsAntisymmetric, compare-total, compare-IsAntisymmetric}
+use Rattle.integral_index.proofs.Orders.{by_fields-total, compare-total, compare-IsAntisymmetric}
 use Rattle.sparse_row.specs.Row.{Row, coefficient, Shows, IsPivot}
 use Rattle.sparse_row.specs.ReducedList.{IsEchelon}
 use Rattle.reduction_core.specs.NormalForm.{empty_row, unit_row, solved, by_rule, rule_for, normal_form}

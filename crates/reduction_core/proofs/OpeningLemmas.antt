@@ -1,5 +1,5 @@
 -- The units of rows, and the opening.
-use Rattle.std.proofs.Common.{◌≡◌, ◌≢◌, ℕ, ◌+◌, ◌-◌, ◌<◌, ◌≤◌, None, Some, unwrap_or, List, [], ◌∷◌, ◌++◌, length, get_or, take, All, AllPairs, Contains, filter, refl, sym, ap, subst, ◌∙◌, ◌⊎◌, inl, inr, arith}
+use Rattle.std.proofs.Common.{◌≡◌, ℕ, ◌+◌, ◌-◌, ◌<◌, ◌≤◌, List, [], ◌∷◌, ◌++◌, length, get_or, take, All, AllPairs, Contains, filter, refl, sym, ap, subst, ◌∙◌, inl, inr, arith}
 use Rattle.std.specs.FinMap as finite
 use Rattle.std.specs.List.{AllZip, insert}
 use Rattle.std.specs.List.Sorted.{IsSorted, IsNonDecreasingBy, IsPartitionPoint}
@@ -17,11 +17,10 @@ use Rattle.integral_index.specs.Integral.{Integral}
 use Rattle.integral_index.specs.Order.{unit_of, unit_compare}
 use Rattle.integral_index.proofs.Orders.{unit_compare-total, unit_compare-IsAntisymmetric}
 use Rattle.sparse_row.specs.declared.Term.{Term}
-use Rattle.sparse_row.specs.Row.{Row, coefficient, Shows, IsRow, IsGreatest}
+use Rattle.sparse_row.specs.Row.{Row, coefficient, Shows, IsRow}
 use Rattle.sparse_row.specs.Terms.{IsTermList, total_at}
 use Rattle.sparse_row.proofs.RowValues.{total_at-place}
 use Rattle.sparse_row.proofs.TermLists.{Descends-from_pairs}
-use Rattle.sector_forward.specs.Elimination.{IsShownBySome}
 use Rattle.sector_forward.proofs.Shown.{term_of_shown}
 use Rattle.sector_forward.proofs.Members.{Contains-cons_cases, Contains-here, Contains-there}
 use Rattle.sector_forward.proofs.StepLemmas.{same_at}
@@ -34,7 +33,7 @@ use Rattle.sector_machine.proofs.Greatest.{HasGreatestIn-from_test}
 use Rattle.reduction_core.specs.declared.slots.Slot.{Slot}
 use Rattle.reduction_core.specs.Slots.{with_rows, by_unit, units_of, state_of, waiting_of, forward_of, back_of, IsJoined, HaveListedUnits}
 use Rattle.reduction_core.specs.Opening.{ShowsUnit, AreListed, IsEmptySlot}
-use Rattle.reduction_core.proofs.SlotLemmas.{zip_member, joined_units, joined_waiting}
+use Rattle.reduction_core.proofs.SlotLemmas.{joined_units, joined_waiting}
 
 -- ---- one unit more
 

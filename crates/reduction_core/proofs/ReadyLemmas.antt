@@ -1,5 +1,5 @@
 -- Which events may happen, slot by slot.
-use Rattle.std.proofs.Common.{◌≡◌, ◌≢◌, ◌↔◌, ℕ, Bool, true, false, not, IsTrue, Option, is_some, ◌+◌, ◌<◌, ◌≤◌, None, Some, unwrap_or, List, [], ◌∷◌, ◌++◌, length, get_or, All, Contains, refl, sym, ap, subst, ◌∙◌, ◌⊎◌, inl, inr, arith}
+use Rattle.std.proofs.Common.{◌≡◌, ◌≢◌, ◌↔◌, ℕ, Bool, true, false, not, IsTrue, Option, is_some, ◌+◌, ◌<◌, ◌≤◌, None, Some, unwrap_or, List, [], length, get_or, All, Contains, refl, sym, ap, subst, ◌∙◌, inl, inr, arith}
 use Rattle.std.specs.FinMap as finite
 use Rattle.std.specs.Option.{option_map}
 use Rattle.std.specs.declared.cmp.Ordering.TheVariants.{Less, Greater}
@@ -8,17 +8,11 @@ use Rattle.std.proofs.lemmas.Cmp.{tied_itself}
 use Rattle.std.proofs.lemmas.List.Elements.{All-contains, Contains-get_or}
 use Rattle.integral_index.specs.declared.Order.{Order}
 use Rattle.integral_index.specs.declared.Unit.{Unit}
-use Rattle.integral_index.specs.Integral.{Integral}
 use Rattle.integral_index.specs.Order.{unit_of, unit_compare}
 use Rattle.integral_index.proofs.Orders.{unit_compare-total}
-use Rattle.sparse_row.specs.declared.Term.{Term}
-use Rattle.sparse_row.specs.Row.{Row, coefficient, Shows, IsGreatest}
-use Rattle.sparse_row.specs.Terms.{IsTermList, total_at}
-use Rattle.sparse_row.proofs.RowValues.{total_at-place, greatest_same}
-use Rattle.sparse_row.proofs.TermLists.{Descends-from_pairs}
-use Rattle.sector_forward.proofs.Shown.{term_of_shown}
+use Rattle.sparse_row.specs.Row.{Row}
 use Rattle.sector_forward.proofs.StepLemmas.{same_at}
-use Rattle.sector_machine.specs.State.{RowsByUnit, Has, HasNone, rows_at}
+use Rattle.sector_machine.specs.State.{RowsByUnit, Has, rows_at}
 use Rattle.sector_machine.specs.Machine.{Ascends, AreUnitsOf, HasGreatestIn, MayForward, MayBack}
 use Rattle.sector_machine.proofs.Lists.{Contains-none, All-from_members}
 use Rattle.sector_machine.proofs.Units.{unit_cases, no_rows}

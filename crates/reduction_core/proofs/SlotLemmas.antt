@@ -1,5 +1,5 @@
 -- The lists of rows by unit that the slots are.
-use Rattle.std.proofs.Common.{◌≡◌, ◌≢◌, ℕ, ◌+◌, ◌<◌, Bool, true, false, cond, IsOk, OnOk, None, Some, Option, is_some, unwrap_or, suc, append-nil, append_assoc, List, [], ◌∷◌, ◌++◌, map, length, get_or, All, Contains, filter, take, count_by, flat_map, refl, sym, ap, subst, ◌∙◌, ◌⊎◌, inl, inr, arith}
+use Rattle.std.proofs.Common.{◌≡◌, ◌≢◌, ℕ, ◌+◌, ◌<◌, true, false, cond, None, Some, Option, is_some, unwrap_or, suc, append-nil, append_assoc, List, [], ◌∷◌, ◌++◌, length, get_or, Contains, filter, take, count_by, flat_map, refl, sym, ap, subst, ◌∙◌, ◌⊎◌, inl, inr, arith}
 use Rattle.std.specs.FinMap as finite
 use Rattle.std.specs.List.{AllZip}
 use Rattle.std.specs.List.Sorted.{IsSorted, IsNonDecreasingBy, IsPartitionPoint}

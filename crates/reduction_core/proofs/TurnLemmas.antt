@@ -1,20 +1,16 @@
 -- The tasks of a board.
-use Rattle.std.proofs.Common.{◌≡◌, ◌≢◌, ◌↔◌, ℕ, ◌+◌, ◌<◌, ◌≤◌, Bool, true, false, IsTrue, cond, Option, None, Some, unwrap_or, List, [], ◌∷◌, ◌++◌, length, get_or, take, filter, flat_map, All, Contains, refl, sym, ap, subst, ◌∙◌, ◌⊎◌, inl, inr, append-nil, append_assoc, arith}
-use Rattle.std.specs.FinMap as finite
-use Rattle.std.specs.Option.{option_map}
-use Rattle.std.proofs.lemmas.Bool.{false≢true}
-use Rattle.std.proofs.lemmas.List.Elements.{All-contains, Contains-get_or, filter-append, filter_more}
+use Rattle.std.proofs.Common.{◌≡◌, ◌≢◌, ◌↔◌, ℕ, ◌+◌, ◌<◌, Bool, true, false, IsTrue, cond, Option, None, Some, unwrap_or, List, [], ◌∷◌, ◌++◌, length, get_or, take, filter, flat_map, All, Contains, refl, sym, ap, subst, ◌∙◌, inl, inr, append-nil, append_assoc}
+use Rattle.std.proofs.lemmas.List.Elements.{All-contains, filter-append, filter_more}
 use Rattle.integral_index.specs.declared.Order.{Order}
 use Rattle.integral_index.specs.declared.Unit.{Unit}
 use Rattle.integral_index.specs.Integral.{Integral}
 use Rattle.sparse_row.specs.Row.{Row, coefficient, IsRow, IsEmpty, IsGreatest}
 use Rattle.sparse_row.proofs.RowValues.{greatest_same}
 use Rattle.sector_forward.specs.Elimination.{IsShownBySome}
-use Rattle.sector_forward.proofs.StepLemmas.{same_at}
 use Rattle.std.specs.Option.{MatchOption}
 use Rattle.std.proofs.lemmas.Bool.{cases_eq}
 use Rattle.sector_machine.specs.State.{State, rows_at}
-use Rattle.sector_machine.specs.Machine.{back_rows, IsDone, back_count}
+use Rattle.sector_machine.specs.Machine.{IsDone, back_count}
 use Rattle.sector_machine.specs.Tasks.{shows_pivot_of}
 use Rattle.sector_machine.specs.Invariant.{HoldsOfRows}
 use Rattle.sector_machine.proofs.Lists.{Contains-none, All-from_members}
@@ -23,13 +19,12 @@ use Rattle.sector_machine.proofs.Ready.{something_is_ready, done_is_the_end}
 use Rattle.sector_machine.proofs.Rows.{row_of_rules}
 use Rattle.sector_machine.proofs.Greatest.{shown_from_test, test-from_shown}
 use Rattle.reduction_core.specs.declared.slots.Slot.{Slot}
-use Rattle.reduction_core.specs.Slots.{by_unit, units_of, waiting_of, forward_of, back_of, state_of}
+use Rattle.reduction_core.specs.Slots.{by_unit, back_of, state_of}
 use Rattle.reduction_core.specs.declared.task.Work.{Work}
 use Rattle.reduction_core.specs.declared.task.Work.TheVariants.{Forward, Back}
 use Rattle.reduction_core.specs.Task.{Task}
 use Rattle.reduction_core.specs.Ready.{NoForward, NoBack, IsReady}
-use Rattle.reduction_core.proofs.SlotLemmas.{part_rows, get_listed, rows_of_slots, flat_more}
-use Rattle.reduction_core.proofs.ReadyLemmas.{held_ascend}
+use Rattle.reduction_core.proofs.SlotLemmas.{part_rows, get_listed, flat_more}
 
 pub shown_tested : (p : ℕ) (order own : Order) (rows : List Row) (rule : Row) (x : Integral) (b : Bool) → IsRow p order rule → own ≡ order → IsGreatest own rule x → (IsTrue b ↔ IsShownBySome rows x) → b ≡ shows_pivot_of order rows rule
 shown_tested p order own rows rule x true is same top says = sym (test-from_shown p order rows rule x is (subst (λ o. IsGreatest o rule x) same top) (says.0 refl))

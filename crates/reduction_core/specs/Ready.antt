@@ -1,13 +1,12 @@
 -- Which unit's turn it is, and what the steps of finding it promise each other. The turns are the project's own.
-use Rattle.std.specs.Prelude.{◌≡◌, ◌≢◌, ℕ, List, slice_index_or, All, Contains}
+use Rattle.std.specs.Prelude.{◌≡◌, ◌≢◌, ℕ, List, slice_index_or, Contains}
 use Rattle.std.specs.declared.cmp.Ordering.TheVariants.{Less, Greater}
 use Rattle.integral_index.specs.declared.Order.{Order}
 use Rattle.integral_index.specs.declared.Unit.{Unit}
-use Rattle.integral_index.specs.Integral.{Integral}
-use Rattle.integral_index.specs.Order.{unit_of, unit_compare}
-use Rattle.sparse_row.specs.Row.{Row, Shows}
+use Rattle.integral_index.specs.Order.{unit_compare}
+use Rattle.sparse_row.specs.Row.{Row}
 use Rattle.sector_machine.specs.State.{State, RowsByUnit, Has, rows_at}
-use Rattle.sector_machine.specs.Machine.{HasGreatestIn, MayForward, MayBack}
+use Rattle.sector_machine.specs.Machine.{MayForward, MayBack}
 use Rattle.sector_machine.specs.Tasks.{below_of}
 use Rattle.sector_machine.specs.Invariant.{HoldsOfRows}
 use Rattle.reduction_core.specs.declared.slots.Slot.{Slot}

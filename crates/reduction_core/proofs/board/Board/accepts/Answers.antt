@@ -11,5 +11,5 @@ returns-clause-event c =
     let b = c.self.inside in
     let v = c.args.self.now in
     let accepted : IsAccepted b.modulus b.order (state_of b.slots.items) c.args.entry.now =
-        subst (λ w. IsAccepted w.modulus w.order w.state c.args.entry.now) (sym c.self.view_is) (leads_accepted v.modulus v.order v.state after c.args.entry.now leads) in
+    subst (λ w. IsAccepted w.modulus w.order w.state c.args.entry.now) (sym c.self.view_is) (leads_accepted v.modulus v.order v.state after c.args.entry.now leads) in
     (subst (λ slots. IsTrue c.accepts.result ↔ IsAccepted b.modulus b.order (state_of slots) c.args.entry.now) c.deref.ensures.value c.accepts.ensures).1 accepted

@@ -27,5 +27,5 @@ returns-clause-event c =
     let after = state_of c.in_ok-self-inside.field-0.items in
     let accepted : IsAccepted b.modulus b.order before c.args.entry = subst (λ v. IsAccepted v.modulus v.order v.state c.args.entry) (sym c.self.view_is) c.requires in
     let change : IsAfter b.order (event_of c.args.entry) before after =
-        subst (λ slots. IsAfter b.order (event_of c.args.entry) (state_of slots) after) (ap (λ v. v.items) c.replace-slots.ensures.value) c.in_ok-self-inside.ensures in
+    subst (λ slots. IsAfter b.order (event_of c.args.entry) (state_of slots) after) (ap (λ v. v.items) c.replace-slots.ensures.value) c.in_ok-self-inside.ensures in
     rw (← c.self.view_is) (computed_leads b.modulus b.order before after c.args.entry c.self.invariant accepted change)
