@@ -26,7 +26,7 @@ use Rattle.job_point.specs.declared.values.Values.{Values}
 use Rattle.job_point.specs.Steps.{Answer, Step, Is, Then, Each}
 use Rattle.job_point.specs.Steps.{After as Followed}
 use Rattle.job_point.specs.Values.{answer_of, with_symbol, IsValueAt, AreSettingsAt, AreValuesAt}
-use Rattle.job_point.specs.Point.{AreRulesAt, IsPointFor, IsPointAt, AreDenominatorsAt, IsBasisFor, IsBasisAt}
+use Rattle.job_point.specs.Point.{AreRulesAt, IsPointFor, IsPointAt, AreDenominatorsAt, IsBasisFor, AreSymmetriesAt, IsFamilyAt, AreFamiliesAt}
 use Rattle.job_point.specs.Agreement.{NamesDivisorsAlone}
 use Rattle.job_point.specs.Laws.{PointsNameDivisors}
 use Rattle.job_point.proofs.AgreeingSteps.{is_names, then_names, each_names}
@@ -168,16 +168,22 @@ point_names p big residues kinematics below =
     (each_names p _ (λ found rule. then_names p _ _ (value_names p residues _ _ _ some below) (λ value is. is_names p _)) [] kinematics.rules)
     (λ rules is fault h. h)
 
-basis_names : (p : ℕ) → 1 < p → (residues : List ℕ) (point : Point) (k : ℕ) (family : Family) → All (λ v. v < p) residues → NamesDivisorsAlone p (IsBasisAt p residues point k family)
-basis_names p big residues point k family below =
+family_names : (p : ℕ) → 1 < p → (residues : List ℕ) (point : Point) (k : ℕ) (family : Family) → All (λ v. v < p) residues → NamesDivisorsAlone p (IsFamilyAt p residues point k family)
+family_names p big residues point k family below =
     let some : 0 < p = omega (arith, big) in
     then_names p (AreDenominatorsAt p residues family.propagators) _
     (each_names p _ (λ found propagator. then_names p _ _ (value_names p residues _ _ _ some below) (λ mass is. is_names p _)) [] family.propagators)
-    (λ denominators is fault h. h)
+    (λ denominators is. then_names p (IsBasisFor p point k (length family.loops) denominators) _ (λ fault h. h)
+    (λ basis found. then_names p (AreSymmetriesAt basis family.symmetries) _
+    (each_names p _ (λ others symmetry fault h. absurd h) [] family.symmetries) (λ symmetries all. is_names p _)))
+
+families_name : (p : ℕ) → 1 < p → (residues : List ℕ) (point : Point) (families : List Family) → All (λ v. v < p) residues → NamesDivisorsAlone p (AreFamiliesAt p residues point families)
+families_name p big residues point families below =
+    then_names p _ _ (each_names p _ (λ found family. family_names p big residues point _ family below) [] families) (λ found is. is_names p _)
 
 pub points_name_divisors : PointsNameDivisors
 points_name_divisors p kinematics families settings big =
     then_names p _ _ (values_name p big kinematics.symbol settings) (λ values is.
     let below = values_below p big kinematics.symbol settings values is in
     then_names p _ _ (point_names p big values.residues kinematics below) (λ point is.
-    then_names p _ _ (each_names p _ (λ found family. basis_names p big values.residues point _ family below) [] families) (λ bases is. is_names p _)))
+    then_names p _ _ (families_name p big values.residues point families below) (λ found is. is_names p _)))
