@@ -126,7 +126,13 @@ fn symmetry_at(
     ensures symmetry { Meets (IsSymmetryAt (record { loops = loops; denominators = denominators.now; point = point.now }) symmetry.now) result }
     ensures width { IfOk result (λ places. length places ≡ length denominators.now) }
 {
-    match check(alloc, symmetry.images.as_slice(), denominators, point, modulus) {
+    match check(
+        alloc,
+        symmetry.images.as_slice(),
+        denominators,
+        point,
+        modulus,
+    ) {
         Ok(found) => Ok(found),
         Err(fault) => Err(map_error(symmetry.line, fault)),
     }
@@ -188,8 +194,8 @@ fn family_at(
     let loops = family.loops.len() as u32;
     let width = loops + point.externals();
     let propagators = family.propagators.as_slice();
-    let denominators = denominators_at(alloc, propagators, width, residues, modulus)?;
-    let denominators = denominators.as_slice();
+    let found = denominators_at(alloc, propagators, width, residues, modulus)?;
+    let denominators = found.as_slice();
     let basis = basis_of(alloc, number, loops, denominators, point, modulus)?;
     let maps = family.symmetries.as_slice();
     let symmetries = symmetries_at(alloc, maps, loops, denominators, point, modulus)?;

@@ -7,7 +7,12 @@ use Rattle.job_point.proofs.FamilyLemmas.{split_none, split_more, split_spoilt, 
 use Rattle.job_point.proofs.bases.families_at.Goals as goal
 
 pub loop-family-init : goal.loop-family-init
-loop-family-init c = record { split = split_none (IsFamilyAt c.args.modulus.now c.args.residues.now c.args.point.now) c.args.families.now; counted = refl; of = tt; widths = tt }
+loop-family-init c = record {
+  split = rw c.new-bases.ensures (rw c.new-symmetries.ensures (split_none (IsFamilyAt c.args.modulus.now c.args.residues.now c.args.point.now) c.args.families.now));
+  counted = rw c.new-bases.ensures refl;
+  of = rw c.new-bases.ensures tt;
+  widths = rw c.new-bases.ensures (rw c.new-symmetries.ensures tt);
+}
 
 pub returns-in_err-found-clause-families : goal.returns-in_err-found-clause-families
 returns-in_err-found-clause-families c =
