@@ -9,5 +9,5 @@ use Rattle.job_equations.specs.Equations.{AreEquations}
 -- two lists that are the equations of the same seeds are equal
 abbrev pub OneListOfEquations : Type 0
 OneListOfEquations =
-    (bases : List Basis) (zeros : List (List ℕ)) (d : ℕ) (order : Order) (seeds : List Integral) (rows others : List Row)
-    → AreEquations bases zeros d order seeds rows → AreEquations bases zeros d order seeds others → rows ≡ others
+    (bases : List Basis) (symmetries : List (List (List ℕ))) (zeros : List (List ℕ)) (d : ℕ) (order : Order) (seeds : List Integral) (rows others : List Row)
+    → AreEquations bases symmetries zeros d order seeds rows → AreEquations bases symmetries zeros d order seeds others → rows ≡ others

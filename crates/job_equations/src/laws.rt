@@ -2,11 +2,10 @@
 
 ghost use Rattle.job_equations.specs.Laws.{OneListOfEquations};
 
-use ibp_generator::laws::equation_is_unique;
-
 /// Seeds have only one list of equations.
 pub fn equations_are_unique()
     ensures { OneListOfEquations }
 {
-    equation_is_unique();
+    ibp_generator::laws::equation_is_unique();
+    symmetry_maps::laws::equation_is_unique();
 }

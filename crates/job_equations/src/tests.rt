@@ -1,12 +1,13 @@
-//! Equations modulo 101, worked by hand: those of the one-loop tadpole and bubble, and of a two-loop vacuum
-//! diagram; and bounds on terms.
+//! Equations modulo 101, worked by hand: those of the one-loop tadpole and bubble, whose lines a symmetry
+//! exchanges, and of a two-loop vacuum diagram; and bounds on terms.
 
 ghost use Rattle.std.specs.Prelude.{◌≡◌, ◌≤◌, ◌<◌, ◌↔◌, All, IsTrue, IfOk, OnOk, length};
+ghost use Rattle.std.specs.List.{AllZip};
 ghost use Rattle.kinematics.specs.Rules.{IsRule};
 ghost use Rattle.propagators.specs.Denominators.{IsDenominator};
 ghost use Rattle.propagators.specs.Forms.{product_total};
 ghost use Rattle.ibp_generator.specs.Shifts.{IsSeedIndex};
-ghost use Rattle.job_equations.specs.Equations.{IsSeedOf};
+ghost use Rattle.job_equations.specs.Equations.{AreSymmetriesOf, IsSeedOf};
 ghost use Rattle.job_equations.specs.Bounds.{IsEquationShape};
 
 use super::*;
@@ -16,8 +17,10 @@ use kinematics::{Momentum, Point, Rule, point};
 use out_of_memory::OutOfMemory;
 use propagators::{Basis, Denominator, family};
 use sparse_row::Row;
-use std::alloc::{AllocFailed, Global};
+use sqlite_items::Items;
+use std::alloc::{AllocError, AllocFailed, Global};
 use std::test::Fail;
+use symmetry_maps::{Symmetry, check};
 
 // What a helper of the tests may answer.
 #[derive(Debug, Drop)]
@@ -29,11 +32,18 @@ enum Wrong {
     Shape,
     Point,
     Basis,
+    Symmetry,
     OutOfMemory,
 }
 
 impl From<OutOfMemory> for Wrong {
     fn from(_refused: OutOfMemory) -> Wrong {
+        Wrong::OutOfMemory
+    }
+}
+
+impl From<AllocError> for Wrong {
+    fn from(_refused: AllocError) -> Wrong {
         Wrong::OutOfMemory
     }
 }
@@ -182,23 +192,85 @@ fn vacuum(alloc: Global, modulus: &Modulus) -> Result<Basis, Wrong>
     basis_of(alloc, 2, &denominators, &point, modulus)
 }
 
-// The families of a job, with one modulus.
-fn push_family(bases: &mut Vec<Basis>, basis: Basis, modulus: &Modulus) -> Result<(), Wrong>
-    requires all { All (λ basis. basis.point.modulus ≡ modulus.now) bases.old.items }
-    requires one { basis.point.modulus ≡ modulus.now }
-    ensures { OnOk result (All (λ basis. basis.point.modulus ≡ modulus.now) bases.new.items) }
+fn are_wide(images: &[Momentum], width: usize) -> bool
+    ensures { IsTrue result → All (λ image. length image ≡ width) images.now }
 {
-    bases.push(basis)?;
-    Ok(())
+    images
+        .iter()
+        .all(|image| image.coefficients().len() == width)
 }
 
-fn only(alloc: Global, basis: Basis, modulus: &Modulus) -> Result<Vec<Basis>, Wrong>
-    requires { basis.point.modulus ≡ modulus.now }
-    ensures { IfOk result (λ bases. All (λ basis. basis.point.modulus ≡ modulus.now) bases.items) }
+// A basis, and the symmetry by these images of the loop momenta.
+fn symmetric(
+    alloc: Global,
+    images: &[Momentum],
+    denominators: &[Denominator],
+    point: &Point,
+    modulus: &Modulus,
+) -> Result<(Basis, Symmetry), Wrong>
+    requires { point.now.modulus ≡ modulus.now }
+    ensures { IfOk result (λ both. both.0.point.modulus ≡ modulus.now) }
 {
-    let mut bases = Vec::new(alloc);
-    push_family(&mut bases, basis, modulus)?;
-    Ok(bases)
+    if images.is_empty() || images.len() > 6 || denominators.len() > 20 {
+        return Err(Wrong::Denominators);
+    }
+    let loops = images.len() as u32;
+    let width = images.len() + point.externals() as usize;
+    let total = loops * (loops + 1) / 2 + loops * point.externals();
+    if denominators.len() != total as usize
+        || !are_denominators(denominators, width, modulus)
+        || !are_wide(images, width)
+    {
+        return Err(Wrong::Denominators);
+    }
+    match family(alloc, loops, denominators, point, modulus) {
+        Ok(basis) => match check(alloc, images, denominators, point, modulus) {
+            Ok(symmetry) => Ok((basis, symmetry)),
+            Err(_) => Err(Wrong::Symmetry),
+        },
+        Err(_) => Err(Wrong::Basis),
+    }
+}
+
+// The bubble, and the symmetry by this image of k1.
+fn bubble_with(alloc: Global, image: &[i16], modulus: &Modulus) -> Result<(Basis, Symmetry), Wrong>
+    ensures { IfOk result (λ both. both.0.point.modulus ≡ modulus.now) }
+{
+    let point = point_of(alloc, &[rule(alloc, &[1], 5)?], 1, modulus)?;
+    let denominators = [square(alloc, &[1, 0], 0)?, square(alloc, &[1, 1], 0)?];
+    let images = [momentum(alloc, image)?];
+    symmetric(alloc, &images, &denominators, &point, modulus)
+}
+
+fn are_symmetries_of(basis: &Basis, symmetries: &[Symmetry]) -> bool
+    ensures { IsTrue result → AreSymmetriesOf basis.now symmetries.now }
+{
+    let width = basis.width() as usize;
+    symmetries
+        .iter()
+        .all(|symmetry| symmetry.places().len() == width)
+}
+
+// The families of a job, with one modulus, and the symmetries of each.
+fn push_family(
+    bases: &mut Vec<Basis>,
+    symmetries: &mut Vec<Items<Symmetry>>,
+    basis: Basis,
+    found: Items<Symmetry>,
+    modulus: &Modulus,
+) -> Result<(), Wrong>
+    requires all { All (λ basis. basis.point.modulus ≡ modulus.now) bases.old.items }
+    requires pairs { AllZip AreSymmetriesOf bases.old.items symmetries.old.items }
+    requires one { basis.point.modulus ≡ modulus.now }
+    ensures all { OnOk result (All (λ basis. basis.point.modulus ≡ modulus.now) bases.new.items) }
+    ensures pairs { OnOk result (AllZip AreSymmetriesOf bases.new.items symmetries.new.items) }
+{
+    if !are_symmetries_of(&basis, found.as_slice()) {
+        return Err(Wrong::Symmetry);
+    }
+    bases.push(basis)?;
+    symmetries.push(found)?;
+    Ok(())
 }
 
 fn is_seed_index(index: i8) -> bool
@@ -255,12 +327,14 @@ fn zeros_of(alloc: Global, listed: &[&[u32]]) -> Result<Vec<ZeroSectors>, Wrong>
 fn rows_of(
     alloc: Global,
     bases: &[Basis],
+    symmetries: &[Items<Symmetry>],
     listed: &[&[u32]],
     dimension: u128,
     named: &[(u32, &[i8])],
     modulus: &Modulus,
 ) -> Result<Vec<Row>, Wrong>
-    requires { All (λ basis. basis.point.modulus ≡ modulus.now) bases.now }
+    requires all { All (λ basis. basis.point.modulus ≡ modulus.now) bases.now }
+    requires pairs { AllZip AreSymmetriesOf bases.now symmetries.now }
 {
     let zeros = zeros_of(alloc, listed)?;
     let seeds = integrals(alloc, named)?;
@@ -270,6 +344,7 @@ fn rows_of(
     Ok(equations(
         alloc,
         bases,
+        symmetries,
         &zeros,
         modulus.reduce(dimension),
         &seeds,
@@ -312,9 +387,18 @@ fn are_rows(alloc: Global, rows: &[Row], wanted: &[(u32, &[(&[i8], u64)])]) -> R
 fn equations_of_the_bubble(rt: HostRuntime) -> Result<(), Fail> {
     let alloc = rt.alloc();
     let modulus = Modulus::new(101)?;
-    let bases = only(alloc, bubble(alloc, &modulus)?, &modulus)?;
+    let mut bases = Vec::new(alloc);
+    let mut symmetries = Vec::new(alloc);
+    let basis = bubble(alloc, &modulus)?;
+    push_family(
+        &mut bases,
+        &mut symmetries,
+        basis,
+        Items::new(alloc),
+        &modulus,
+    )?;
     let seeds: [(u32, &[i8]); 2] = [(0, &[2, -1]), (0, &[1, 1])];
-    let rows = rows_of(alloc, &bases, &[&[]], 7, &seeds, &modulus)?;
+    let rows = rows_of(alloc, &bases, &symmetries, &[&[]], 7, &seeds, &modulus)?;
     let wanted: [(u32, &[(&[i8], u64)]); 4] = [
         (0, &[(&[2, -1], 4), (&[2, 0], 96), (&[1, 0], 1)]),
         (
@@ -343,10 +427,34 @@ fn equations_of_the_bubble(rt: HostRuntime) -> Result<(), Fail> {
 fn the_family_of_a_seed_decides(rt: HostRuntime) -> Result<(), Fail> {
     let alloc = rt.alloc();
     let modulus = Modulus::new(101)?;
-    let mut bases = only(alloc, tadpole(alloc, 3, &modulus)?, &modulus)?;
-    push_family(&mut bases, bubble(alloc, &modulus)?, &modulus)?;
+    let mut bases = Vec::new(alloc);
+    let mut symmetries = Vec::new(alloc);
+    let basis = tadpole(alloc, 3, &modulus)?;
+    push_family(
+        &mut bases,
+        &mut symmetries,
+        basis,
+        Items::new(alloc),
+        &modulus,
+    )?;
+    let basis = bubble(alloc, &modulus)?;
+    push_family(
+        &mut bases,
+        &mut symmetries,
+        basis,
+        Items::new(alloc),
+        &modulus,
+    )?;
     let seeds: [(u32, &[i8]); 3] = [(0, &[1]), (1, &[1, 1]), (0, &[2])];
-    let rows = rows_of(alloc, &bases, &[&[], &[1, 2]], 7, &seeds, &modulus)?;
+    let rows = rows_of(
+        alloc,
+        &bases,
+        &symmetries,
+        &[&[], &[1, 2]],
+        7,
+        &seeds,
+        &modulus,
+    )?;
     let wanted: [(u32, &[(&[i8], u64)]); 4] = [
         (0, &[(&[2], 95), (&[1], 5)]),
         (1, &[(&[1, 2], 5), (&[1, 1], 4)]),
@@ -357,17 +465,70 @@ fn the_family_of_a_seed_decides(rt: HostRuntime) -> Result<(), Fail> {
     Ok(())
 }
 
+// The two maps of the bubble are the one that leaves k1, by which all cancels, and k1 -> -k1 - p1, which
+// exchanges the lines. The tadpole has no symmetry.
+#[test]
+fn symmetries_come_behind_the_derivatives(rt: HostRuntime) -> Result<(), Fail> {
+    let alloc = rt.alloc();
+    let modulus = Modulus::new(101)?;
+    let mut bases = Vec::new(alloc);
+    let mut symmetries = Vec::new(alloc);
+    let basis = tadpole(alloc, 3, &modulus)?;
+    push_family(
+        &mut bases,
+        &mut symmetries,
+        basis,
+        Items::new(alloc),
+        &modulus,
+    )?;
+    let (_other, stay) = bubble_with(alloc, &[1, 0], &modulus)?;
+    let (basis, exchange) = bubble_with(alloc, &[-1, -1], &modulus)?;
+    let mut found = Items::new(alloc);
+    found.push(stay)?;
+    found.push(exchange)?;
+    push_family(&mut bases, &mut symmetries, basis, found, &modulus)?;
+    let seeds: [(u32, &[i8]); 2] = [(0, &[1]), (1, &[2, -1])];
+    let rows = rows_of(alloc, &bases, &symmetries, &[&[], &[]], 7, &seeds, &modulus)?;
+    let wanted: [(u32, &[(&[i8], u64)]); 5] = [
+        (0, &[(&[2], 95), (&[1], 5)]),
+        (1, &[(&[2, -1], 4), (&[2, 0], 96), (&[1, 0], 1)]),
+        (
+            1,
+            &[
+                (&[3, -2], 99),
+                (&[3, -1], 10),
+                (&[2, -1], 3),
+                (&[2, 0], 5),
+                (&[1, 0], 100),
+            ],
+        ),
+        (1, &[]),
+        (1, &[(&[-1, 2], 100), (&[2, -1], 1)]),
+    ];
+    assert!(rt; are_rows(alloc, &rows, &wanted)?);
+    Ok(())
+}
+
 // The massless tadpole has (d - 2a) I(a): nothing for d = 2 and a = 1.
 #[test]
 fn an_empty_row_stays(rt: HostRuntime) -> Result<(), Fail> {
     let alloc = rt.alloc();
     let modulus = Modulus::new(101)?;
-    let bases = only(alloc, tadpole(alloc, 0, &modulus)?, &modulus)?;
+    let mut bases = Vec::new(alloc);
+    let mut symmetries = Vec::new(alloc);
+    let basis = tadpole(alloc, 0, &modulus)?;
+    push_family(
+        &mut bases,
+        &mut symmetries,
+        basis,
+        Items::new(alloc),
+        &modulus,
+    )?;
     let seeds: [(u32, &[i8]); 2] = [(0, &[1]), (0, &[2])];
-    let rows = rows_of(alloc, &bases, &[&[]], 2, &seeds, &modulus)?;
+    let rows = rows_of(alloc, &bases, &symmetries, &[&[]], 2, &seeds, &modulus)?;
     let wanted: [(u32, &[(&[i8], u64)]); 2] = [(0, &[]), (0, &[(&[2], 99)])];
     assert!(rt; are_rows(alloc, &rows, &wanted)?);
-    let none = rows_of(alloc, &bases, &[&[]], 2, &[], &modulus)?;
+    let none = rows_of(alloc, &bases, &symmetries, &[&[]], 2, &[], &modulus)?;
     assert!(rt; none.is_empty());
     Ok(())
 }
@@ -379,8 +540,25 @@ fn an_empty_row_stays(rt: HostRuntime) -> Result<(), Fail> {
 fn the_loop_momentum_is_the_outer_one(rt: HostRuntime) -> Result<(), Fail> {
     let alloc = rt.alloc();
     let modulus = Modulus::new(101)?;
-    let bases = only(alloc, vacuum(alloc, &modulus)?, &modulus)?;
-    let rows = rows_of(alloc, &bases, &[&[]], 7, &[(0, &[1, 1, 1])], &modulus)?;
+    let mut bases = Vec::new(alloc);
+    let mut symmetries = Vec::new(alloc);
+    let basis = vacuum(alloc, &modulus)?;
+    push_family(
+        &mut bases,
+        &mut symmetries,
+        basis,
+        Items::new(alloc),
+        &modulus,
+    )?;
+    let rows = rows_of(
+        alloc,
+        &bases,
+        &symmetries,
+        &[&[]],
+        7,
+        &[(0, &[1, 1, 1])],
+        &modulus,
+    )?;
     let wanted: [(u32, &[(&[i8], u64)]); 4] = [
         (
             0,

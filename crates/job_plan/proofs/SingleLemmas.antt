@@ -101,6 +101,7 @@ plan_of_single families integrals at one other h k =
     let names : one.names ≡ other.names = h.names ∙ sym k.names in
     let zeros : one.zeros ≡ other.zeros = zeros_same families one.zeros other.zeros h.zeros k.zeros in
     let bases : one.bases ≡ other.bases = h.bases ∙ sym k.bases in
+    let symmetries : one.symmetries ≡ other.symmetries = h.symmetries ∙ sym k.symmetries in
     let seeds : one.seeds ≡ other.seeds = h.seeds_are ∙ sym k.seeds_are in
     let selection : one.selection ≡ other.selection = h.selection_is ∙ sym k.selection_is in
     λ i. record {
@@ -110,6 +111,7 @@ plan_of_single families integrals at one other h k =
       names = names i;
       zeros = zeros i;
       bases = bases i;
+      symmetries = symmetries i;
       seeds = seeds i;
       selection = selection i;
     }

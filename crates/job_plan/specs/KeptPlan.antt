@@ -3,7 +3,7 @@ use Rattle.job_plan.specs.declared.plans.Plan.TheInside.{Inside}
 use Rattle.job_plan.specs.Plans.{Plan, IsWhole}
 
 abbrev pub shown : Inside → Plan
-shown a = record { modulus = a.modulus; order = a.order; dimension = a.dimension; names = a.names.items; zeros = a.zeros; bases = a.bases; seeds = a.seeds; selection = a.selection }
+shown a = record { modulus = a.modulus; order = a.order; dimension = a.dimension; names = a.names.items; zeros = a.zeros; bases = a.bases; symmetries = a.symmetries; seeds = a.seeds; selection = a.selection }
 
 abbrev pub IsKept : Inside → Type 0
 IsKept a = IsWhole (shown a)

@@ -1,7 +1,6 @@
 -- What the three files of a job and the words say, as `Outline` is seen. The project's own; the keys follow
 -- Kira, arXiv:1705.05610.
-use Rattle.std.specs.Prelude.{◌≡◌, ◌<◌, ◌≤◌, Bool, List, length, nat_lt, All, refl}
-use Rattle.std.specs.List.{list_any}
+use Rattle.std.specs.Prelude.{◌≡◌, ◌<◌, ◌≤◌, List, length, All, refl}
 use Rattle.std.specs.Coded.{Coded, code_by, coded×, coded_list}
 use Rattle.seed_sets.specs.declared.Spec.{Spec}
 use Rattle.seed_sets.specs.contracts.Spec as spec_contracts
@@ -34,10 +33,6 @@ outline_code =
     (coded× (kinematics_contracts.the_row).coded (coded× (coded_list (family_contracts.the_row).coded) (coded× (coded_list (spec_contracts.the_row).coded) (coded× (selection_contracts.the_row).coded (point_contracts.the_row).coded))))
     (λ o. (o.kinematics, (o.families, (o.reduce, (o.select, o.point)))))
     (λ p. record { kinematics = p.0; families = p.1.0; reduce = p.1.1.0; select = p.1.1.1.0; point = p.1.1.1.1 }) (λ _. refl)
-
--- whether some family names a symmetry
-abbrev pub has_symmetry : Outline → Bool
-has_symmetry outline = list_any (λ family. nat_lt 0 (length family.symmetries)) outline.families
 
 -- what the readers keep of the families: few of them, all sound, each with few symmetries
 pub record AreFamilies (kinematics : Kinematics) (families : List Family) : Type 0 where

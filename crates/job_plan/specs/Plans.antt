@@ -9,7 +9,7 @@ use Rattle.integral_index.specs.declared.Order.TheVariants.{Standard}
 use Rattle.seed_sets.specs.Seeds.{Ascends}
 use Rattle.propagators.specs.Basis.{Basis}
 use Rattle.family_schema.specs.declared.content.Family.{Family}
-use Rattle.job_equations.specs.Equations.{IsSeedOf}
+use Rattle.job_equations.specs.Equations.{AreSymmetriesOf, IsSeedOf}
 use Rattle.job_point.specs.declared.points.AtPoint.{AtPoint}
 use Rattle.job_point.specs.Steps.{Step, Then}
 use Rattle.job_point.specs.Point.{IsAtPoint}
@@ -18,8 +18,8 @@ use Rattle.job_plan.specs.Readings.{names_of}
 use Rattle.job_plan.specs.declared.gathering.Integrals.{Integrals}
 use Rattle.job_plan.specs.Gathering.{AreIntegrals}
 
--- the modulus, the order, the dimension, a residue, the name, the zero sectors and the denominators of each
--- family, the seeds of the equations, and the selection
+-- the modulus, the order, the dimension, a residue, the name, the zero sectors, the denominators and the
+-- symmetries of each family, the seeds of the equations, and the selection
 pub record Plan : Type 0 where
   pub modulus : ℕ
   pub order : Order
@@ -27,6 +27,7 @@ pub record Plan : Type 0 where
   pub names : List Bytes
   pub zeros : List (List ℕ)
   pub bases : List Basis
+  pub symmetries : List (List (List ℕ))
   pub seeds : List Integral
   pub selection : List Integral
 
@@ -40,14 +41,16 @@ pub record IsOfFamily (bases : List Basis) (x : Integral) : Type 0 where
   pub found : slice_get bases x.family ≡ Some basis
   pub width : length x.indices ≡ length basis.denominators
 
--- what every plan keeps: at most 16 families, of which each has all three, a residue, bases at the modulus,
--- seeds that have equations, and a selection of integrals of the families, ascending, each once
+-- what every plan keeps: at most 16 families, of which each has all four, a residue, bases at the modulus,
+-- symmetries of the denominators, seeds that have equations, and a selection of integrals of the families,
+-- ascending, each once
 pub record IsWhole (plan : Plan) : Type 0 where
   pub few : length plan.names ≤ 16
   pub zeros_of_all : length plan.zeros ≡ length plan.names
   pub bases_of_all : length plan.bases ≡ length plan.names
   pub dimension_below : plan.dimension < plan.modulus
   pub moduli : All (λ basis. basis.point.modulus ≡ plan.modulus) plan.bases
+  pub symmetries_of_all : AllZip AreSymmetriesOf plan.bases plan.symmetries
   pub seeds : All (IsSeedOf plan.bases) plan.seeds
   pub selection : All (IsOfFamily plan.bases) plan.selection
   pub ascends : Ascends plan.order plan.selection
@@ -66,6 +69,7 @@ pub record IsPlanOf (families : List Family) (integrals : Integrals) (at : AtPoi
   pub names : plan.names ≡ names_of families
   pub zeros : AllZip AreZerosOf families plan.zeros
   pub bases : plan.bases ≡ at.bases
+  pub symmetries : plan.symmetries ≡ at.symmetries
   pub seeds_are : plan.seeds ≡ integrals.seeds
   pub selection_is : plan.selection ≡ integrals.selection
 

@@ -1,8 +1,8 @@
 //! The seeds, the selection and the equations of small jobs, and jobs with too many of them, worked out by hand.
 
 use crate::plan_tests::plan_of;
-use crate::tests::outline_of;
 use crate::{Excess, File, InputFault, InputKind, Plan, PlanError};
+use sparse_row::Row;
 use std::alloc::Global;
 use std::test::Fail;
 
@@ -11,6 +11,9 @@ const BUBBLE_KINEMATICS: &'static str =
 
 const BUBBLE_FAMILY: &'static str =
     "integralfamilies:\n  - {name: bub, loop_momenta: [k1], propagators: [[k1, 0], [k1+p1, 0]], zero_sectors: [1, 2], symmetries: [{k1: -k1-p1}]}\n";
+
+const TWO_MAPS: &'static str =
+    "integralfamilies:\n  - name: bub\n    loop_momenta: [k1]\n    propagators: [[k1, 0], [k1+p1, 0]]\n    symmetries:\n      - {k1: -k1-p1}\n      - {k1: -k1}\n";
 
 const BUBBLE_JOB: &'static str =
     "jobs:\n  - reduce_sectors:\n      reduce: [{topologies: [bub], sectors: [3], r: 2, s: 0}]\n      select_integrals: {select_mandatory_recursively: [{topologies: [bub], sectors: [3], r: 3, s: 0}]}\n      numeric_point: {prime: 101, d: 7, s: 5}\n";
@@ -64,7 +67,14 @@ fn sizes_of(plan: &Plan) -> Result<(u64, usize, usize), Fail> {
     Ok((plan.seed_count(), plan.selection().len(), rows.len()))
 }
 
-// One seed with two momenta, and the selection of 1 + 2.
+fn is_empty_at(rows: &[Row], place: usize) -> bool {
+    match rows.get(place) {
+        Some(row) => row.terms().is_empty(),
+        None => false,
+    }
+}
+
+// One seed with two momenta and a symmetry, which leaves it as it is, and the selection of 1 + 2.
 #[test]
 fn plans_the_bubble(rt: HostRuntime) -> Result<(), Fail> {
     let plan = plan_of(
@@ -75,22 +85,8 @@ fn plans_the_bubble(rt: HostRuntime) -> Result<(), Fail> {
         &[],
         &[],
     )??;
-    assert_eq!(rt; sizes_of(&plan)?, (1, 3, 2));
-    Ok(())
-}
-
-#[test]
-fn knows_symmetries(rt: HostRuntime) -> Result<(), Fail> {
-    let alloc = rt.alloc();
-    let bubble = outline_of(alloc, BUBBLE_KINEMATICS, BUBBLE_FAMILY, BUBBLE_JOB, &[])??;
-    let triangle = outline_of(
-        alloc,
-        TRIANGLE_KINEMATICS,
-        TRIANGLE_FAMILY,
-        TRIANGLE_JOB,
-        &[],
-    )??;
-    assert!(rt; bubble.has_symmetry() && !triangle.has_symmetry());
+    assert_eq!(rt; sizes_of(&plan)?, (1, 3, 3));
+    assert!(rt; is_empty_at(&plan.equations()?, 2));
     Ok(())
 }
 
@@ -159,6 +155,26 @@ fn list_fault(number: u32, line: u32, kind: InputKind) -> Cause {
         line,
         kind,
     })
+}
+
+// The first map exchanges the denominators. The second one makes (k1 - p1)^2 of the second, which is none.
+#[test]
+fn names_the_first_map_that_is_no_symmetry(rt: HostRuntime) -> Result<(), Fail> {
+    let outcome = plan_of(
+        rt.alloc(),
+        BUBBLE_KINEMATICS,
+        TWO_MAPS,
+        BUBBLE_JOB,
+        &[],
+        &[],
+    )?;
+    let fault = InputFault {
+        file: File::Families,
+        line: 7,
+        kind: InputKind::NotAPermutation,
+    };
+    assert_eq!(rt; cause_of(&outcome), Cause::Input(fault));
+    Ok(())
 }
 
 // The first list file has no fault, the second has one on its third line, behind a comment.

@@ -35,7 +35,7 @@ impl Model for Outline {
 impl Outline {
     ghost use Rattle.std.specs.Prelude.{◌≡◌, ◌<◌, ◌≤◌, ◌^◌, [], length, map, slice_index_or};
     ghost use Rattle.std.specs.Str.{IsAscii};
-    ghost use Rattle.job_plan.specs.Outlines.{IsSound, has_symmetry};
+    ghost use Rattle.job_plan.specs.Outlines.{IsSound};
     ghost use Rattle.job_plan.specs.Readings.{names_of};
 
     /// How many list files the job selects from, at most 16.
@@ -72,14 +72,6 @@ impl Outline {
         ensures short { length result.now < 2 ^ 32 }
     {
         self.families.as_slice()[family as usize].name.as_str()
-    }
-
-    /// Whether some family names a symmetry.
-    pub fn has_symmetry(&self) -> bool
-        ensures { result ≡ has_symmetry self.now }
-    {
-        let families = self.families.as_slice();
-        families.iter().any(|family| family.symmetries.len() > 0)
     }
 
     /// The modulus, and the values of the dimension and of the invariants but the one that is replaced by 1.

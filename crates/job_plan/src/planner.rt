@@ -4,7 +4,7 @@ ghost use Rattle.std.specs.Prelude.{◌≡◌, ◌<◌, ◌≤◌, ◌^◌, All,
 ghost use Rattle.std.specs.List.{AllZip};
 ghost use Rattle.integral_index.specs.declared.Order.TheVariants.{Standard};
 ghost use Rattle.seed_sets.specs.Seeds.{Ascends};
-ghost use Rattle.job_equations.specs.Equations.{IsSeedOf};
+ghost use Rattle.job_equations.specs.Equations.{AreSymmetriesOf, IsSeedOf};
 ghost use Rattle.job_point.specs.Steps.{Meets};
 ghost use Rattle.job_plan.specs.Plans.{AreZerosOf, IsOfFamily, IsPlanOf, IsPlan};
 
@@ -42,6 +42,7 @@ fn plan_of(
     requires bases { length at.bases ≡ length families.now }
     requires dimension { at.dimension < at.modulus }
     requires moduli { All (λ basis. basis.point.modulus ≡ at.modulus) at.bases }
+    requires symmetries { AllZip AreSymmetriesOf at.bases at.symmetries }
     requires seeds { All (IsSeedOf at.bases) integrals.seeds }
     requires selection { All (IsOfFamily at.bases) integrals.selection }
     requires ascends { Ascends Standard integrals.selection }
@@ -56,6 +57,7 @@ fn plan_of(
         names,
         zeros,
         bases: at.bases,
+        symmetries: at.symmetries,
         seeds: integrals.seeds,
         selection: integrals.selection,
     })
@@ -74,7 +76,7 @@ fn plan_of(
 ///   them, told as they are.
 /// - What `job_point::at_point` says: ZeroDivisor or Composite for the invariants in the order of their file,
 ///   for the dimension and for the values of the rules; RulesClash, RulesOpen or Composite for the rules; then
-///   ZeroDivisor, NotBasis or Composite for each family.
+///   for each family ZeroDivisor, NotBasis or Composite, and Input for its first map that is no symmetry.
 ///
 /// `OutOfMemory` where memory was refused; it may go before any of them.
 pub fn plan(alloc: Global, outline: &Outline, lists: &[Vec<u8>]) -> Result<Plan, PlanError>

@@ -8,10 +8,11 @@ use propagators::Basis;
 use sparse_row::Row;
 use sqlite_items::Items;
 use std::marker::Model;
+use symmetry_maps::Symmetry;
 
 /// What a job says at its numeric point, as its equations and its table are made from it: the modulus, the
-/// order of the integrals, the dimension, the name, the zero sectors and the denominators of each family, the
-/// seeds of the equations, and the selected integrals. The project's own.
+/// order of the integrals, the dimension, the name, the zero sectors, the denominators and the symmetries of
+/// each family, the seeds of the equations, and the selected integrals. The project's own.
 #[derive(Debug, Drop)]
 pub struct Plan {
     pub(crate) modulus: Modulus,
@@ -20,6 +21,7 @@ pub struct Plan {
     pub(crate) names: Vec<Name>,
     pub(crate) zeros: Items<ZeroSectors>,
     pub(crate) bases: Items<Basis>,
+    pub(crate) symmetries: Items<Items<Symmetry>>,
     pub(crate) seeds: Items<Integral>,
     pub(crate) selection: Items<Integral>,
 }
@@ -134,20 +136,21 @@ impl Plan {
         self.seeds.len() as u64
     }
 
-    /// The equations of the seeds, which ascend: for each seed those of all pairs of a loop momentum and a
-    /// momentum, the loop momentum outer. An equation in which all cancels or vanishes is there as the empty
-    /// row. Source: arXiv:1705.05610.
+    /// The equations of the seeds, which ascend: for each seed first those of all pairs of a loop momentum and
+    /// a momentum, the loop momentum outer, and then those of its family's symmetries, in the order of their
+    /// file. An equation in which all cancels or vanishes is there as the empty row. Source: arXiv:1705.05610.
     ///
     /// # Errors
     ///
     /// `OutOfMemory` where memory was refused.
     pub fn equations(&self) -> Result<Vec<Row>, OutOfMemory>
-        ensures equations { IfOk result (λ rows. AreEquations self.now.bases self.now.zeros self.now.dimension self.now.order self.now.seeds rows.items) }
+        ensures equations { IfOk result (λ rows. AreEquations self.now.bases self.now.symmetries self.now.zeros self.now.dimension self.now.order self.now.seeds rows.items) }
         ensures rows { IfOk result (λ rows. All (IsRow self.now.modulus self.now.order) rows.items) }
     {
         job_equations::equations(
             *self.names.allocator(),
             self.bases.as_slice(),
+            self.symmetries.as_slice(),
             self.zeros.as_slice(),
             self.dimension,
             self.seeds.as_slice(),

@@ -42,17 +42,21 @@ names_after {A} {B} p next (Err e) r d m = subst (λ (o : Answer B). NamesDiviso
 pub is_agrees : {A : Type 0} (p : ℕ) (answer : Answer A) → Agrees p (Is answer)
 is_agrees p answer r q h k = inl (same_answer r q (sym h ∙ k))
 
-after_agrees : {A B : Type 0} (p : ℕ) (next : A → Step B) → ((a : A) → Agrees p (next a)) → (x y : Answer A) (r q : Answer B) →
+after_agrees : {A B : Type 0} (p : ℕ) (first : Step A) (next : A → Step B) → ((a : A) → first (Ok a) → Agrees p (next a)) → (x y : Answer A) (r q : Answer B) → first x →
     IsSameAnswer x y ⊎ (NamesDivisor p x ⊎ NamesDivisor p y) → After x next r → After y next q → IsSameAnswer r q ⊎ (NamesDivisor p r ⊎ NamesDivisor p q)
-after_agrees {A} {B} p next same (Ok a) y r q (inl e) m n = same a r q m (subst (λ (o : Answer A). After o next q) e n)
-after_agrees {A} {B} p next same (Err x) y r q (inl e) m n =
+after_agrees {A} {B} p first next same (Ok a) y r q is (inl e) m n = same a is r q m (subst (λ (o : Answer A). After o next q) e n)
+after_agrees {A} {B} p first next same (Err x) y r q is (inl e) m n =
     let named : q ≡ Err e.0 = subst (λ (o : Answer A). After o next q) e.1 n in
     inl (subst (λ (o : Answer B). IsSameAnswer o q) (sym m) (e.0, named, e.2))
-after_agrees p next same x y r q (inr (inl d)) m n = inr (inl (names_after p next x r d m))
-after_agrees p next same x y r q (inr (inr d)) m n = inr (inr (names_after p next y q d n))
+after_agrees p first next same x y r q is (inr (inl d)) m n = inr (inl (names_after p next x r d m))
+after_agrees p first next same x y r q is (inr (inr d)) m n = inr (inr (names_after p next y q d n))
+
+-- where what follows a value may need that it is one
+pub then_agrees_where : {A B : Type 0} (p : ℕ) (first : Step A) (next : A → Step B) → Agrees p first → ((a : A) → first (Ok a) → Agrees p (next a)) → Agrees p (Then first next)
+then_agrees_where p first next one same r q h k = after_agrees p first next same h.answer k.answer r q h.is (one h.answer k.answer h.is k.is) h.after k.after
 
 pub then_agrees : {A B : Type 0} (p : ℕ) (first : Step A) (next : A → Step B) → Agrees p first → ((a : A) → Agrees p (next a)) → Agrees p (Then first next)
-then_agrees p first next one same r q h k = after_agrees p next same h.answer k.answer r q (one h.answer k.answer h.is k.is) h.after k.after
+then_agrees p first next one same = then_agrees_where p first next one (λ a is. same a)
 
 pub each_agrees : {N A : Type 0} (p : ℕ) (step : List A → N → Step A) → ((found : List A) (item : N) → Agrees p (step found item)) → (found : List A) (items : List N) → Agrees p (Each step found items)
 each_agrees p step same found [] r q h k = inl (same_answer r q (h ∙ sym k))

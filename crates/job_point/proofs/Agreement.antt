@@ -1,5 +1,5 @@
 -- The answers of one step are the same, but where one names a divisor of the modulus.
-use Rattle.std.proofs.Common.{◌≡◌, ◌⊎◌, ◌<◌, inl, inr, ℕ, List, [], ◌∷◌, ◌++◌, length, All, Ok, Err, refl, sym, ap, ◌∙◌, subst, arith, get_or}
+use Rattle.std.proofs.Common.{◌≡◌, ◌<◌, inl, inr, ℕ, List, [], ◌∷◌, length, All, Ok, Err, refl, sym, ap, ◌∙◌, arith}
 use Rattle.std.proofs.lemmas.Bool.{cases_lt}
 use Rattle.std.proofs.lemmas.List.{get_or_past}
 use Rattle.matrix_elimination.specs.Vectors.{HasLeadingOne}
@@ -9,18 +9,23 @@ use Rattle.kinematics.specs.Points.{Point}
 use Rattle.kinematics.specs.Trees.{Tree}
 use Rattle.kinematics.specs.declared.rules.Rule.{Rule}
 use Rattle.propagators.specs.declared.denominators.Denominator.{Denominator}
+use Rattle.propagators.specs.Basis.{Basis, forms_of}
+use Rattle.propagators.specs.Combinations.{AreIndependent}
+use Rattle.symmetry_maps.specs.Laws.{OneSymmetry, FaultRefutesSymmetry}
 use Rattle.input_schema.specs.declared.faults.File.{File}
+use Rattle.input_schema.specs.declared.faults.InputFault.{InputFault}
 use Rattle.kinematics_schema.specs.declared.content.Kinematics.{Kinematics}
+use Rattle.family_schema.specs.declared.content.Symmetry.{Symmetry as Map}
 use Rattle.family_schema.specs.declared.content.Family.{Family}
 use Rattle.job_schema.specs.declared.points.Setting.{Setting}
 use Rattle.job_point.specs.declared.faults.PlanError.TheVariants.{Input, Singular, RulesClash, Composite, TooMany, OutOfMemory}
 use Rattle.job_point.specs.declared.faults.Singular.TheVariants.{ZeroDivisor, RulesOpen, NotBasis}
 use Rattle.job_point.specs.Values.{answer_of, IsValueAt, AreSettingsAt, AreValuesAt}
-use Rattle.job_point.specs.Point.{AreRulesAt, IsPointFor, IsPointAt, AreDenominatorsAt, IsBasisFor, IsBasisAt}
+use Rattle.job_point.specs.Point.{AreRulesAt, IsPointFor, IsPointAt, AreDenominatorsAt, IsBasisFor, images_of, IsSymmetryAt, AreSymmetriesAt, IsFamilyAt, AreFamiliesAt}
 use Rattle.job_point.specs.Agreement.{Agrees}
 use Rattle.job_point.specs.Laws.{PointsAgree}
-use Rattle.job_point.proofs.SingleLemmas.{point_for_single}
-use Rattle.job_point.proofs.AgreeingSteps.{same_answer, is_agrees, then_agrees, each_agrees}
+use Rattle.job_point.proofs.SingleLemmas.{point_for_single, independent}
+use Rattle.job_point.proofs.AgreeingSteps.{same_answer, is_agrees, then_agrees, then_agrees_where, each_agrees}
 
 -- ---- values
 
@@ -123,14 +128,48 @@ basis_for_agrees p point number loops denominators = by
     by (Err (Singular (NotBasis family v))) (Err (TooMany what count)) h k = absurd k
     by (Err (Singular (NotBasis family v))) (Err OutOfMemory) h k = absurd k
 
-basis_agrees : HasOneOutcome → (p : ℕ) → 1 < p → (residues : List ℕ) (point : Point) (number : ℕ) (family : Family) → Agrees p (IsBasisAt p residues point number family)
-basis_agrees law p big residues point number family =
+-- a symmetry, or the line of its map
+symmetry_agrees : OneSymmetry → FaultRefutesSymmetry → (p : ℕ) → 1 < p → (basis : Basis) (symmetry : Map) → AreIndependent p (forms_of basis) → Agrees p (IsSymmetryAt basis symmetry)
+symmetry_agrees one refutes p big basis symmetry apart = by
+  where
+    refuted : (places : List ℕ) (f : InputFault) → IsSymmetryAt basis symmetry (Ok places) → IsSymmetryAt basis symmetry (Err (Input f)) → ⊥
+    refuted places f h k = refutes p (images_of basis symmetry) (forms_of basis) k.denominator places big apart k.first.from_1 k.first.within k.first.fault h
+
+    by : Agrees p (IsSymmetryAt basis symmetry)
+    by (Ok a) (Ok b) h k = inl (ap Ok (one p (images_of basis symmetry) (forms_of basis) b a big apart k h))
+    by (Ok a) (Err (Input f)) h k = absurd (refuted a f h k)
+    by (Err (Input f)) (Ok b) h k = absurd (refuted b f k h)
+    by (Err (Input f)) (Err (Input g)) h k = inl (same_answer _ _ (ap (λ x. Err (Input x)) (h.told ∙ sym k.told)))
+    by (Err (Singular cause)) q h k = absurd h
+    by (Err (RulesClash m r)) q h k = absurd h
+    by (Err (Composite f)) q h k = absurd h
+    by (Err (TooMany what count)) q h k = absurd h
+    by (Err OutOfMemory) q h k = absurd h
+    by (Ok a) (Err (Singular cause)) h k = absurd k
+    by (Ok a) (Err (RulesClash m r)) h k = absurd k
+    by (Ok a) (Err (Composite f)) h k = absurd k
+    by (Ok a) (Err (TooMany what count)) h k = absurd k
+    by (Ok a) (Err OutOfMemory) h k = absurd k
+    by (Err (Input f)) (Err (Singular cause)) h k = absurd k
+    by (Err (Input f)) (Err (RulesClash m r)) h k = absurd k
+    by (Err (Input f)) (Err (Composite g)) h k = absurd k
+    by (Err (Input f)) (Err (TooMany what count)) h k = absurd k
+    by (Err (Input f)) (Err OutOfMemory) h k = absurd k
+
+family_agrees : HasOneOutcome → OneSymmetry → FaultRefutesSymmetry → (p : ℕ) → 1 < p → (residues : List ℕ) (point : Point) (number : ℕ) (family : Family) → Agrees p (IsFamilyAt p residues point number family)
+family_agrees law one refutes p big residues point number family =
     then_agrees p (AreDenominatorsAt p residues family.propagators) _
     (each_agrees p _ (λ found propagator. then_agrees p _ _ (value_agrees law p big _ _ _ _) (λ mass. is_agrees p _)) [] family.propagators)
-    (λ denominators. basis_for_agrees p point number _ denominators)
+    (λ denominators. then_agrees_where p (IsBasisFor p point number (length family.loops) denominators) _ (basis_for_agrees p point number _ denominators) (λ basis is.
+    then_agrees p (AreSymmetriesAt basis family.symmetries) _
+    (each_agrees p _ (λ found symmetry. symmetry_agrees one refutes p big basis symmetry (independent p point number _ denominators basis is)) [] family.symmetries) (λ symmetries. is_agrees p _)))
 
-pub points_agree : HasOneOutcome → ClashHasNoTable → PointsAgree
-points_agree law clash p kinematics families settings big =
+families_agree : HasOneOutcome → OneSymmetry → FaultRefutesSymmetry → (p : ℕ) → 1 < p → (residues : List ℕ) (point : Point) (families : List Family) → Agrees p (AreFamiliesAt p residues point families)
+families_agree law one refutes p big residues point families =
+    then_agrees p _ _ (each_agrees p _ (λ found family. family_agrees law one refutes p big residues point _ family) [] families) (λ found. is_agrees p _)
+
+pub points_agree : HasOneOutcome → ClashHasNoTable → OneSymmetry → FaultRefutesSymmetry → PointsAgree
+points_agree law clash one refutes p kinematics families settings big =
     then_agrees p _ _ (values_agree law p big kinematics.symbol settings) (λ values.
     then_agrees p _ _ (point_agrees law clash p big values.residues kinematics) (λ point.
-    then_agrees p _ _ (each_agrees p _ (λ found family. basis_agrees law p big values.residues point _ family) [] families) (λ bases. is_agrees p _)))
+    then_agrees p _ _ (families_agree law one refutes p big values.residues point families) (λ found. is_agrees p _)))

@@ -1,6 +1,6 @@
 -- A composite modulus is named by its divisors alone: the values of expressions are residues, so that a common
 -- divisor of one and the modulus is less than the modulus.
-use Rattle.std.proofs.Common.{◌≡◌, ◌≢◌, ◌<◌, ◌≤◌, ◌%◌, ℕ, zero, suc, List, [], ◌∷◌, ◌++◌, length, All, Ok, Err, Some, None, Option, refl, sym, ap, ◌∙◌, subst, arith, get_or, slice_index, take, drop, Bool, true, false, inl, inr}
+use Rattle.std.proofs.Common.{◌≡◌, ◌≢◌, ◌<◌, ◌≤◌, ◌%◌, ℕ, List, [], ◌∷◌, ◌++◌, length, All, Ok, Err, Some, None, Option, refl, sym, ap, subst, arith, slice_index, take, drop, Bool, true, false, inl, inr}
 use Rattle.std.specs.Prelude.{⊤}
 use Rattle.std.specs.Int.{IsGcd, ◌∣◌}
 use Rattle.std.specs.Result.{is_ok}
@@ -8,14 +8,12 @@ use Rattle.std.proofs.Math.Nat.{mod-lt, eq-zero_of_zero-dvd}
 use Rattle.std.proofs.lemmas.Bool.{true≢false, cases_lt}
 use Rattle.std.proofs.lemmas.List.{get_or_past}
 use Rattle.std.proofs.lemmas.Nat.Gcd.{le_of_dvd}
-use Rattle.std.proofs.lemmas.List.Elements.{All-push, All-append, All-take, All-drop, All-get_or}
+use Rattle.std.proofs.lemmas.List.Elements.{All-push, All-append, All-take, All-drop}
 use Rattle.matrix_elimination.specs.Fault.{IsProperDivisor}
 use Rattle.kinematics.specs.declared.faults.ValueFault.TheVariants as value_fault
 use Rattle.kinematics.specs.Points.{Point}
 use Rattle.kinematics.specs.Trees.{Tree, number, place, negative, sum, difference, product, quotient, power}
 use Rattle.kinematics.specs.Evaluation.{Outcome, After, IsQuotient, HasOutcome}
-use Rattle.kinematics.specs.declared.rules.Rule.{Rule}
-use Rattle.propagators.specs.declared.denominators.Denominator.{Denominator}
 use Rattle.input_schema.specs.declared.faults.File.{File}
 use Rattle.kinematics_schema.specs.declared.content.Kinematics.{Kinematics}
 use Rattle.family_schema.specs.declared.content.Family.{Family}
@@ -23,10 +21,10 @@ use Rattle.job_schema.specs.declared.points.Setting.{Setting}
 use Rattle.field_word.specs.declared.Composite.{Composite as FieldComposite}
 use Rattle.job_point.specs.declared.faults.PlanError.TheVariants.{Composite}
 use Rattle.job_point.specs.declared.values.Values.{Values}
-use Rattle.job_point.specs.Steps.{Answer, Step, Is, Then, Each}
+use Rattle.job_point.specs.Steps.{Answer, Step, Each}
 use Rattle.job_point.specs.Steps.{After as Followed}
 use Rattle.job_point.specs.Values.{answer_of, with_symbol, IsValueAt, AreSettingsAt, AreValuesAt}
-use Rattle.job_point.specs.Point.{AreRulesAt, IsPointFor, IsPointAt, AreDenominatorsAt, IsBasisFor, IsBasisAt}
+use Rattle.job_point.specs.Point.{AreRulesAt, IsPointAt, AreDenominatorsAt, IsBasisFor, AreSymmetriesAt, IsFamilyAt, AreFamiliesAt}
 use Rattle.job_point.specs.Agreement.{NamesDivisorsAlone}
 use Rattle.job_point.specs.Laws.{PointsNameDivisors}
 use Rattle.job_point.proofs.AgreeingSteps.{is_names, then_names, each_names}
@@ -168,16 +166,22 @@ point_names p big residues kinematics below =
     (each_names p _ (λ found rule. then_names p _ _ (value_names p residues _ _ _ some below) (λ value is. is_names p _)) [] kinematics.rules)
     (λ rules is fault h. h)
 
-basis_names : (p : ℕ) → 1 < p → (residues : List ℕ) (point : Point) (k : ℕ) (family : Family) → All (λ v. v < p) residues → NamesDivisorsAlone p (IsBasisAt p residues point k family)
-basis_names p big residues point k family below =
+family_names : (p : ℕ) → 1 < p → (residues : List ℕ) (point : Point) (k : ℕ) (family : Family) → All (λ v. v < p) residues → NamesDivisorsAlone p (IsFamilyAt p residues point k family)
+family_names p big residues point k family below =
     let some : 0 < p = omega (arith, big) in
     then_names p (AreDenominatorsAt p residues family.propagators) _
     (each_names p _ (λ found propagator. then_names p _ _ (value_names p residues _ _ _ some below) (λ mass is. is_names p _)) [] family.propagators)
-    (λ denominators is fault h. h)
+    (λ denominators is. then_names p (IsBasisFor p point k (length family.loops) denominators) _ (λ fault h. h)
+    (λ basis found. then_names p (AreSymmetriesAt basis family.symmetries) _
+    (each_names p _ (λ others symmetry fault h. absurd h) [] family.symmetries) (λ symmetries all. is_names p _)))
+
+families_name : (p : ℕ) → 1 < p → (residues : List ℕ) (point : Point) (families : List Family) → All (λ v. v < p) residues → NamesDivisorsAlone p (AreFamiliesAt p residues point families)
+families_name p big residues point families below =
+    then_names p _ _ (each_names p _ (λ found family. family_names p big residues point _ family below) [] families) (λ found is. is_names p _)
 
 pub points_name_divisors : PointsNameDivisors
 points_name_divisors p kinematics families settings big =
     then_names p _ _ (values_name p big kinematics.symbol settings) (λ values is.
     let below = values_below p big kinematics.symbol settings values is in
     then_names p _ _ (point_names p big values.residues kinematics below) (λ point is.
-    then_names p _ _ (each_names p _ (λ found family. basis_names p big values.residues point _ family below) [] families) (λ bases is. is_names p _)))
+    then_names p _ _ (families_name p big values.residues point families below) (λ found is. is_names p _)))

@@ -1,5 +1,6 @@
 pub mod StepLemmas
 mod ListLemmas
+mod FamilyLemmas
 mod RuleLemmas
 mod SingleLemmas
 pub mod AgreeingSteps

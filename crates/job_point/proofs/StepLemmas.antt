@@ -79,16 +79,20 @@ all_found {N} {A} step start items found place g h =
 pub is_single : {A : Type 0} (a : A) → IsSingle (Is (Ok a))
 is_single a one other h k = cc
 
-single_after : {A B : Type 0} (next : A → Step B) → ((a : A) → IsSingle (next a)) → (one other : B) (p q : Answer A) →
+single_after : {A B : Type 0} (first : Step A) (next : A → Step B) → ((a : A) → first (Ok a) → IsSingle (next a)) → (one other : B) (p q : Answer A) → first q →
     ((a b : A) → p ≡ Ok a → q ≡ Ok b → a ≡ b) → After p next (Ok one) → After q next (Ok other) → one ≡ other
-single_after next same one other (Ok a) (Ok b) e h k = same b one other (subst (λ (x : _). next x (Ok one)) (e a b refl refl) h) k
-single_after next same one other (Ok a) (Err f) e h k = absurd (let no : Ok other ≡ Err f = k in cc)
-single_after next same one other (Err f) q e h k = absurd (let no : Ok one ≡ Err f = h in cc)
+single_after first next same one other (Ok a) (Ok b) is e h k = same b is one other (subst (λ (x : _). next x (Ok one)) (e a b refl refl) h) k
+single_after first next same one other (Ok a) (Err f) is e h k = absurd (let no : Ok other ≡ Err f = k in cc)
+single_after first next same one other (Err f) q is e h k = absurd (let no : Ok one ≡ Err f = h in cc)
+
+-- the same, where what follows a value may need that it is one
+pub then_single_where : {A B : Type 0} (first : Step A) (next : A → Step B) → IsSingle first → ((a : A) → first (Ok a) → IsSingle (next a)) → IsSingle (Then first next)
+then_single_where {A} {B} first next one same r q h k =
+    single_after first next same r q h.answer k.answer k.is
+    (λ a b x y. one a b (subst (λ (o : Answer A). first o) x h.is) (subst (λ (o : Answer A). first o) y k.is)) h.after k.after
 
 pub then_single : {A B : Type 0} (first : Step A) (next : A → Step B) → IsSingle first → ((a : A) → IsSingle (next a)) → IsSingle (Then first next)
-then_single {A} {B} first next one same r q h k =
-    single_after next same r q h.answer k.answer
-    (λ a b x y. one a b (subst (λ (o : Answer A). first o) x h.is) (subst (λ (o : Answer A). first o) y k.is)) h.after k.after
+then_single first next one same = then_single_where first next one (λ a is. same a)
 
 pub each_single : {N A : Type 0} (step : List A → N → Step A) → ((found : List A) (item : N) → IsSingle (step found item)) → (found : List A) (items : List N) → IsSingle (Each step found items)
 each_single step same found [] r q h k = cc

@@ -1,5 +1,5 @@
 -- What a job says at its numeric point, and which fault comes first. The project's own.
-use Rattle.std.specs.Prelude.{◌≡◌, ℕ, ◌+◌, Option, Some, None, List, [], length, map, remove, Ok, Err}
+use Rattle.std.specs.Prelude.{◌≡◌, ℕ, ◌+◌, Option, Some, None, List, [], length, map, remove, All, Ok, Err}
 use Rattle.kinematics.specs.declared.rules.Rule.{Rule}
 use Rattle.kinematics.specs.declared.rules.PointFault.{PointFault}
 use Rattle.kinematics.specs.declared.rules.PointFault.TheVariants as point_fault
@@ -10,22 +10,31 @@ use Rattle.propagators.specs.declared.denominators.Denominator.{Denominator}
 use Rattle.propagators.specs.declared.denominators.Denominator.TheVariants as denominator
 use Rattle.propagators.specs.declared.faults.BasisFault.{BasisFault}
 use Rattle.propagators.specs.declared.faults.BasisFault.TheVariants as basis_fault
-use Rattle.propagators.specs.Basis.{Basis}
+use Rattle.propagators.specs.Basis.{Basis, forms_of}
 use Rattle.propagators.specs.Combinations.{AreIndependent}
-use Rattle.propagators.specs.Denominators.{form_of}
+use Rattle.propagators.specs.Denominators.{form_of, image_of}
 use Rattle.propagators.specs.Faults.{IsDependence}
+use Rattle.propagators.specs.Forms.{Form}
+use Rattle.symmetry_maps.specs.declared.faults.MapFault.{MapFault}
+use Rattle.symmetry_maps.specs.declared.faults.MapFault.TheVariants as map_fault
+use Rattle.symmetry_maps.specs.Symmetry.{IsSymmetry, IsFirstAtFault}
 use Rattle.input_schema.specs.declared.faults.File.TheVariants as file
+use Rattle.input_schema.specs.declared.faults.InputFault.{InputFault}
+use Rattle.input_schema.specs.declared.faults.InputKind.TheVariants.{NotAPermutation}
 use Rattle.kinematics_schema.specs.declared.content.Rule as schema
 use Rattle.kinematics_schema.specs.declared.content.Kinematics.{Kinematics}
 use Rattle.family_schema.specs.declared.content.Momenta.{Momenta}
 use Rattle.family_schema.specs.declared.content.Momenta.TheVariants.{Square, Product}
 use Rattle.family_schema.specs.declared.content.Propagator.{Propagator}
+use Rattle.family_schema.specs.declared.content.Symmetry.{Symmetry as Map}
 use Rattle.family_schema.specs.declared.content.Family.{Family}
 use Rattle.family_schema.specs.Scope.{independent_count}
 use Rattle.job_schema.specs.declared.points.Setting.{Setting}
 use Rattle.job_point.specs.declared.faults.PlanError.{PlanError}
 use Rattle.job_point.specs.declared.faults.PlanError.TheVariants as plan_error
 use Rattle.job_point.specs.declared.faults.Singular.TheVariants as singular
+use Rattle.job_point.specs.declared.bases.FamilyAt.{FamilyAt}
+use Rattle.job_point.specs.declared.bases.FamiliesAt.{FamiliesAt}
 use Rattle.job_point.specs.declared.points.AtPoint.{AtPoint}
 use Rattle.job_point.specs.Steps.{Step, Is, Then, Each}
 use Rattle.job_point.specs.Values.{IsValueAt, AreValuesAt}
@@ -105,14 +114,49 @@ IsBasisFor p point number loops denominators (Ok basis) =
     (basis ≡ record { loops = loops; denominators = denominators; point = point }) × AreIndependent p (map (form_of loops point) denominators)
 IsBasisFor p point number loops denominators (Err e) = HasBasisFault p point number loops denominators e
 
--- the masses of the family with this number in order, and then its basis
-abbrev pub IsBasisAt : ℕ → List ℕ → Point → ℕ → Family → Step Basis
-IsBasisAt p residues point number family =
-    Then (AreDenominatorsAt p residues family.propagators) (IsBasisFor p point number (length family.loops))
+-- the forms of the denominators after each loop momentum was replaced by its image
+abbrev pub images_of : Basis → Map → List Form
+images_of basis symmetry = map (image_of basis.loops basis.point symmetry.images) basis.denominators
+
+-- what a fault of the map on this line is here
+abbrev pub map_error_of : ℕ → MapFault → PlanError
+map_error_of line (map_fault.NotAPermutation denominator) = plan_error.Input (record { file = file.Families; line = line; kind = NotAPermutation })
+map_error_of line map_fault.OutOfMemory = plan_error.OutOfMemory
+
+-- some denominator is the first at fault, so that the map permutes them not: it is refused with its line
+pub record IsRefusedMap (basis : Basis) (symmetry : Map) (fault : InputFault) : Type 0 where
+  pub denominator : ℕ
+  pub first : IsFirstAtFault (images_of basis symmetry) (forms_of basis) denominator
+  pub told : fault ≡ record { file = file.Families; line = symmetry.line; kind = NotAPermutation }
+
+-- why the map is no symmetry
+abbrev pub HasMapFault : Basis → Map → PlanError → Type 0
+HasMapFault basis symmetry (plan_error.Input fault) = IsRefusedMap basis symmetry fault
+HasMapFault basis symmetry _ = ⊥
+
+-- the permutation of the denominators that a map of the loop momenta makes
+abbrev pub IsSymmetryAt : Basis → Map → Step (List ℕ)
+IsSymmetryAt basis symmetry (Ok places) = IsSymmetry (images_of basis symmetry) (forms_of basis) places
+IsSymmetryAt basis symmetry (Err e) = HasMapFault basis symmetry e
+
+abbrev pub AreSymmetriesAt : Basis → List Map → Step (List (List ℕ))
+AreSymmetriesAt basis symmetries = Each (λ found symmetry. IsSymmetryAt basis symmetry) [] symmetries
+
+-- the family with this number: its masses in order, then its basis, and then its symmetries in order
+abbrev pub IsFamilyAt : ℕ → List ℕ → Point → ℕ → Family → Step FamilyAt
+IsFamilyAt p residues point number family =
+    Then (AreDenominatorsAt p residues family.propagators) (λ denominators.
+    Then (IsBasisFor p point number (length family.loops) denominators) (λ basis.
+    Then (AreSymmetriesAt basis family.symmetries) (λ symmetries.
+    Is (Ok (record { basis = basis; symmetries = symmetries })))))
+
+abbrev pub split : List FamilyAt → FamiliesAt
+split found = record { bases = map (λ at. at.basis) found; symmetries = map (λ at. at.symmetries) found }
 
 -- the families in order, numbered from 0
-abbrev pub AreBasesAt : ℕ → List ℕ → Point → List Family → Step (List Basis)
-AreBasesAt p residues point families = Each (λ found family. IsBasisAt p residues point (length found) family) [] families
+abbrev pub AreFamiliesAt : ℕ → List ℕ → Point → List Family → Step FamiliesAt
+AreFamiliesAt p residues point families =
+    Then (Each (λ found family. IsFamilyAt p residues point (length found) family) [] families) (λ found. Is (Ok (split found)))
 
 -- ---- all of it
 
@@ -129,8 +173,8 @@ abbrev pub IsAtPoint : ℕ → Kinematics → List Family → List Setting → S
 IsAtPoint p kinematics families settings =
     Then (AreValuesAt p kinematics.symbol settings) (λ values.
     Then (IsPointAt p values.residues kinematics) (λ point.
-    Then (AreBasesAt p values.residues point families) (λ bases.
-    Is (Ok (record { modulus = p; dimension = values.dimension; bases = bases })))))
+    Then (AreFamiliesAt p values.residues point families) (λ found.
+    Is (Ok (record { modulus = p; dimension = values.dimension; bases = found.bases; symmetries = found.symmetries })))))
 
 -- the basis is one of the family, at a point of so many external momenta
 pub record IsBasisOf (p externals : ℕ) (family : Family) (basis : Basis) : Type 0 where
@@ -138,3 +182,7 @@ pub record IsBasisOf (p externals : ℕ) (family : Family) (basis : Basis) : Typ
   pub width : length basis.denominators ≡ family.width
   pub modulus : basis.point.modulus ≡ p
   pub externals_are : basis.point.externals ≡ externals
+
+-- each symmetry has a place for each denominator
+abbrev pub AreSymmetriesOf : Basis → List (List ℕ) → Type 0
+AreSymmetriesOf basis symmetries = All (λ places. length places ≡ length basis.denominators) symmetries

@@ -5,13 +5,14 @@ ghost use Rattle.job_point.specs.Values as values;
 ghost use Rattle.job_point.specs.Point as point;
 
 use field_word::Composite;
-use input_schema::{File, InputFault};
+use input_schema::{File, InputFault, InputKind};
 use kinematics::{PointFault, ValueFault};
 use matrix_elimination::Vector;
 use out_of_memory::OutOfMemory;
 use propagators::BasisFault;
 use std::alloc::{AllocError, AllocFailed};
 use std::fmt;
+use symmetry_maps::MapFault;
 use thiserror::Error;
 
 /// What has no value, or not just one, at the numeric point. The project's own.
@@ -119,6 +120,22 @@ pub(crate) fn basis_error(family: u32, fault: BasisFault) -> PlanError
         }
         BasisFault::Composite(composite) => PlanError::Composite(composite),
         BasisFault::OutOfMemory => PlanError::OutOfMemory,
+    }
+}
+
+/// The fault of the map on this line of the file of families.
+pub(crate) fn map_error(line: u32, fault: MapFault) -> PlanError
+    ensures { result ≡ point.map_error_of line fault }
+{
+    match fault {
+        MapFault::NotAPermutation { .. } => {
+            PlanError::Input(InputFault {
+                file: File::Families,
+                line,
+                kind: InputKind::NotAPermutation,
+            })
+        }
+        MapFault::OutOfMemory => PlanError::OutOfMemory,
     }
 }
 

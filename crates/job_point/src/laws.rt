@@ -8,6 +8,7 @@ pub fn points_are_single()
     ensures { PointsAreSingle }
 {
     kinematics::values_are_unique();
+    symmetry_maps::laws::symmetry_is_unique();
 }
 
 /// Any two answers of what a job says at its numeric point are the same, modulo a number above 1: the same
@@ -20,4 +21,6 @@ pub fn points_agree()
 {
     kinematics::values_are_unique();
     kinematics::refused_rules_have_no_point();
+    symmetry_maps::laws::symmetry_is_unique();
+    symmetry_maps::laws::fault_refutes_symmetry();
 }

@@ -1,5 +1,5 @@
 //! What a job says at its numeric point: the values of the invariants, the point of the rules, and the
-//! denominators of each family.
+//! denominators and the symmetries of each family.
 #![tactic(auto)]
 
 mod bases;

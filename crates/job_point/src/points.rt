@@ -6,9 +6,9 @@ ghost use Rattle.kinematics_schema.specs.Sound as kinematics_file;
 ghost use Rattle.family_schema.specs.Scope.{independent_count};
 ghost use Rattle.family_schema.specs.Sound as family_file;
 ghost use Rattle.job_point.specs.Steps.{Meets};
-ghost use Rattle.job_point.specs.Point.{parameter_count, IsAtPoint, IsBasisOf};
+ghost use Rattle.job_point.specs.Point.{parameter_count, IsAtPoint, IsBasisOf, AreSymmetriesOf};
 
-use crate::bases::bases_at;
+use crate::bases::families_at;
 use crate::faults::PlanError;
 use crate::rules::point_at;
 use crate::values::values_at;
@@ -19,6 +19,7 @@ use kinematics_schema::Kinematics;
 use propagators::Basis;
 use sqlite_items::Items;
 use std::alloc::Global;
+use symmetry_maps::Symmetry;
 
 /// What a job says at its numeric point. The project's own.
 #[derive(Debug, Drop)]
@@ -29,10 +30,12 @@ pub struct AtPoint {
     pub dimension: u64,
     /// The denominators of each family, in the order of the families.
     pub bases: Items<Basis>,
+    /// The symmetries of each family, both in the order of their file.
+    pub symmetries: Items<Items<Symmetry>>,
 }
 
-/// The values of the invariants and of the dimension, the point of the rules, and the denominators of each
-/// family, all at the numeric point. Its settings are the dimension and then the invariants but the one that
+/// The values of the invariants and of the dimension, the point of the rules, and the denominators and the
+/// symmetries of each family, all at the numeric point. Its settings are the dimension and then the invariants but the one that
 /// is replaced by 1, in the order of their file.
 ///
 /// # Errors
@@ -42,10 +45,11 @@ pub struct AtPoint {
 ///   where it has a divisor that is 0 modulo p, or another without inverse.
 /// - For the value of each rule: the same for the first division that fails.
 /// - For the rules: RulesClash, RulesOpen, or Composite, as `kinematics::point` says.
-/// - For each family: ZeroDivisor or Composite for each mass, and then NotBasis or Composite, as
-///   `propagators::family` says.
+/// - For each family: ZeroDivisor or Composite for each mass; then NotBasis or Composite, as
+///   `propagators::family` says; and then, for each of its symmetries, Input with NotAPermutation and the line
+///   of its map, where `symmetry_maps::check` says so.
 ///
-/// `OutOfMemory` where memory was refused; it may go before any of them. `Input` and `TooMany` never come.
+/// `OutOfMemory` where memory was refused; it may go before any of them. `TooMany` never comes.
 pub fn at_point(
     alloc: Global,
     kinematics: &Kinematics,
@@ -60,16 +64,18 @@ pub fn at_point(
     ensures modulus { IfOk result (λ at. at.modulus ≡ point.now.prime) }
     ensures dimension { IfOk result (λ at. at.dimension < point.now.prime) }
     ensures bases { IfOk result (λ at. AllZip (IsBasisOf point.now.prime (independent_count kinematics.now)) families.now at.bases) }
+    ensures symmetries { IfOk result (λ at. AllZip AreSymmetriesOf at.bases at.symmetries) }
 {
     let modulus = point.prime;
     let settings = point.settings.as_slice();
     let values = values_at(alloc, kinematics.symbol, settings, &modulus)?;
     let residues = values.residues.as_slice();
     let products = point_at(alloc, kinematics, residues, &modulus)?;
-    let bases = bases_at(alloc, families, residues, &products, &modulus)?;
+    let found = families_at(alloc, families, residues, &products, &modulus)?;
     Ok(AtPoint {
         modulus,
         dimension: values.dimension,
-        bases,
+        bases: found.bases,
+        symmetries: found.symmetries,
     })
 }

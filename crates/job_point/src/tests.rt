@@ -6,7 +6,7 @@ ghost use Rattle.job_point.specs.Point as spec;
 
 use crate::{AtPoint, PlanError, Singular, at_point};
 use field_word::Modulus;
-use input_schema::File;
+use input_schema::{File, InputKind};
 use job_schema::{Divisor, NumericPoint, Ratio, Setting};
 use kinematics_schema::Kinematics;
 use propagators::Basis;
@@ -187,6 +187,7 @@ enum Cause {
     Dependent(u32, u64, u64),
     Clash,
     Composite(u64),
+    Input(File, u32, InputKind),
     Other,
 }
 
@@ -214,6 +215,7 @@ fn cause_of(outcome: &Result<AtPoint, PlanError>) -> Cause {
         },
         Err(PlanError::RulesClash { .. }) => Cause::Clash,
         Err(PlanError::Composite(composite)) => Cause::Composite(composite.divisor),
+        Err(PlanError::Input(fault)) => Cause::Input(fault.file, fault.line, fault.kind),
         Err(_) => Cause::Other,
     }
 }
@@ -264,6 +266,35 @@ fn refuses_the_first_step(rt: HostRuntime) -> Result<(), Fail> {
         )?;
         assert_eq!(rt; cause_of(&outcome), cause);
     }
+    Ok(())
+}
+
+const MAPS: &'static str =
+    "integralfamilies:\n  - name: bub\n    loop_momenta: [k1]\n    propagators: [[k1, 0], [k1+p1, s-5]]\n    symmetries:\n      - {k1: k1}\n      - {k1: -k1-p1}\n";
+
+fn places(at: &AtPoint, family: usize, number: usize) -> &[u8] {
+    match at.symmetries.get(family) {
+        Some(found) => {
+            match found.get(number) {
+                Some(symmetry) => symmetry.places(),
+                None => &[],
+            }
+        }
+        None => &[],
+    }
+}
+
+// At s = 5 both denominators are massless, and the second map exchanges them. At 6 they differ.
+#[test]
+fn a_map_has_to_permute_the_denominators(rt: HostRuntime) -> Result<(), Fail> {
+    let alloc = rt.alloc();
+    let at = outcome_of(alloc, BUBBLE, MAPS, 101, &[whole(7), whole(5)])??;
+    assert_eq!(rt; at.symmetries.len(), 1);
+    assert_eq!(rt; places(&at, 0, 0), [1, 2].as_slice());
+    assert_eq!(rt; places(&at, 0, 1), [2, 1].as_slice());
+    let outcome = outcome_of(alloc, BUBBLE, MAPS, 101, &[whole(7), whole(6)])?;
+    let wanted = Cause::Input(File::Families, 7, InputKind::NotAPermutation);
+    assert_eq!(rt; cause_of(&outcome), wanted);
     Ok(())
 }
 

@@ -6,4 +6,4 @@ use Rattle.job_equations.specs.Appending.{Appends}
 use Rattle.job_equations.proofs.seeded.equations.Given as goal
 
 abbrev pub invariant-loop-seed : goal.invariant-loop-seed
-invariant-loop-seed l = Appends (IsEquationAt l.bases l.zeros l.dimension l.order) (places l.bases (take l.seed-index l.seeds)) [] l.rows.items
+invariant-loop-seed l = Appends (IsEquationAt l.bases l.zeros l.dimension l.order) (places l.bases l.symmetries (take l.seed-index l.seeds)) [] l.rows.items

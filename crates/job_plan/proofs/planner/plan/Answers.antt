@@ -24,3 +24,6 @@ pub plan_of-requires-clause-ascends : goal.plan_of-requires-clause-ascends
 plan_of-requires-clause-ascends c =
     (integrals_kept c.args.outline.now (map (λ text. text.items) c.args.lists.now) c.in_ok-integrals.integrals _ _ c.in_ok-at.at.bases c.families-families.ensures.sound
     (rw c.families-families.ensures.value at c.in_ok-at.ensures.bases) c.in_ok-integrals.ensures).ascends
+
+pub plan_of-requires-clause-symmetries : goal.plan_of-requires-clause-symmetries
+plan_of-requires-clause-symmetries c = c.in_ok-at.ensures.symmetries

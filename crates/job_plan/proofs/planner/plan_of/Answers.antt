@@ -13,6 +13,7 @@ invariant_of-result c =
       bases_of_all = c.requires.bases ∙ sym names;
       dimension_below = c.requires.dimension;
       moduli = c.requires.moduli;
+      symmetries_of_all = c.requires.symmetries;
       seeds = c.requires.seeds;
       selection = c.requires.selection;
       ascends = c.requires.ascends;
