@@ -29,6 +29,8 @@ pub use table::Table;
 pub use task::{Task, Work};
 
 #[cfg(test)]
+mod board_tests;
+#[cfg(test)]
 mod task_tests;
 #[cfg(test)]
 mod tests;

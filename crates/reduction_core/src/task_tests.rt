@@ -23,7 +23,7 @@ use std::sync::ledger::{Blank, Ledger};
 use std::test::Fail;
 use step_counter::Steps;
 
-type Terms = &'static [([i8; 3], u64)];
+pub(crate) type Terms = &'static [([i8; 3], u64)];
 
 const TOP: Unit = Unit {
     family: 0,
@@ -97,7 +97,7 @@ fn done<L: Ledger>(blank: Blank, task: Task) -> Result<(Task, Record), ForwardFa
     task.compute(&mut steps)
 }
 
-fn computed(task: Task) -> Result<(Task, Record), Wrong> {
+pub(crate) fn computed(task: Task) -> Result<(Task, Record), Wrong> {
     match done::<Brand>(Blank::new(1), task) {
         Ok(outcome) => Ok(outcome),
         Err(_) => Err(Wrong::Task),
