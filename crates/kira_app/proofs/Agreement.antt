@@ -20,7 +20,7 @@ use Rattle.job_point.specs.declared.faults.Singular.TheVariants as singular
 use Rattle.job_point.specs.Steps as point
 use Rattle.job_point.specs.Agreement.{IsSameFault, IsSameAnswer, NamesDivisor}
 use Rattle.job_plan.specs.Laws.{OutlineIsSingle, OutlinesHaveAModulus, PlansAgree, PlansNameDivisors}
-use Rattle.job_plan.specs.Outlines.{Outline, has_symmetry}
+use Rattle.job_plan.specs.Outlines.{Outline}
 use Rattle.job_plan.specs.Readings.{ReadsOutline}
 use Rattle.job_plan.specs.Plans.{Plan, IsPlan}
 use Rattle.kira_app.specs.declared.job_files.Trees.{Trees}
@@ -90,7 +90,7 @@ single_lists files held = single_each _ (λ found list. single_is _) [] files
 single_sources : OutlineIsSingle → (overrides : List Override) (name : Bytes) (held : Held) → Single (ReadsSources overrides name held)
 single_sources law overrides name held =
     single_then _ _
-    (single_then _ _ (single_trees name held) (λ trees. single_then _ _ (single_outline law overrides trees) (λ outline. single_then _ _ (single_is _) (λ _. single_is _))))
+    (single_then _ _ (single_trees name held) (λ trees. single_then _ _ (single_outline law overrides trees) (λ outline. single_is _)))
     (λ both. single_then _ _ (single_lists both.1.select.files held) (λ lists. single_is _))
 
 -- ---- a value that follows a value
@@ -112,10 +112,9 @@ trees_read overrides name held sources h =
     let one = parted _ _ sources h in
     let two = parted _ _ one.0 one.1 in
     let three = parted _ _ one.0 two.2 in
-    let four = parted _ _ one.0 three.2 in
-    let both : one.0 ≡ (two.0, three.0) = ap (value_or one.0) (sym four.2) in
-    let five = parted _ _ sources one.2 in
-    let whole : sources ≡ record { trees = one.0.0; lists = five.0 } = ap (value_or sources) (sym five.2) in
+    let both : one.0 ≡ (two.0, three.0) = ap (value_or one.0) (sym three.2) in
+    let four = parted _ _ sources one.2 in
+    let whole : sources ≡ record { trees = one.0.0; lists = four.0 } = ap (value_or sources) (sym four.2) in
     subst (λ (t : Trees). TreesOf name held (Ok t)) (sym (ap (λ (s : Sources). s.trees) whole ∙ ap (λ (b : Trees × Outline). b.0) both)) two.1
 
 -- ---- the plan of an outline
@@ -282,7 +281,7 @@ none_trees name held =
 none_sources : (overrides : List Override) (name : Bytes) (held : Held) → NoDivisor (ReadsSources overrides name held)
 none_sources overrides name held =
     none_then _ _
-    (none_then _ _ (none_trees name held) (λ trees. none_then _ _ (none_outline overrides trees) (λ outline. none_then _ _ (none_is _ (free_if (has_symmetry outline) _ _ refl tt)) (λ _. none_is _ tt))))
+    (none_then _ _ (none_trees name held) (λ trees. none_then _ _ (none_outline overrides trees) (λ outline. none_is _ tt)))
     (λ both. none_then _ _ (none_each _ (λ found list. none_is _ (free_entry (length found) list.name (map.get held list.name))) [] both.1.select.files) (λ lists. none_is _ tt))
 
 module _ (moduli : OutlinesHaveAModulus) (law : PlansNameDivisors) (words : List Bytes) (held : Held) (fault : FieldComposite) where

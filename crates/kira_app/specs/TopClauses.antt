@@ -31,7 +31,7 @@ use Rattle.kira_app.specs.Plans.{status_of, PlanOf}
 
 -- the equations of the plan's seeds
 abbrev pub AreEquationsOf : Plan → List Row → Type 0
-AreEquationsOf plan equations = AreEquations plan.bases plan.zeros plan.dimension plan.order plan.seeds equations
+AreEquationsOf plan equations = AreEquations plan.bases plan.symmetries plan.zeros plan.dimension plan.order plan.seeds equations
 
 -- the table is the reduced list of the plan's equations
 pub record IsTableOf (plan : Plan) (table : List Row) : Type 0 where

@@ -69,7 +69,7 @@ pub(crate) fn plain_sink(alloc: Global) -> Result<MemorySink, Fail> {
     Ok(MemorySink::new(alloc, Vec::new(alloc), 65536, 65536)?)
 }
 
-fn call(alloc: Global, files: &Files, line: &str) -> Result<Ending, Fail> {
+pub(crate) fn call(alloc: Global, files: &Files, line: &str) -> Result<Ending, Fail> {
     let mut out = plain_sink(alloc)?;
     call_with(
         alloc,
@@ -80,14 +80,14 @@ fn call(alloc: Global, files: &Files, line: &str) -> Result<Ending, Fail> {
 }
 
 // Whether the call printed this table, and nothing else.
-fn prints(ended: &Ending, table: &str) -> bool {
+pub(crate) fn prints(ended: &Ending, table: &str) -> bool {
     matches!(ended.status, Status::Ok)
         && ended.out.as_slice() == table.as_bytes()
         && ended.err.is_empty()
 }
 
 // Whether the call was refused with this exit status and this line, and printed no table.
-fn refuses(ended: &Ending, code: u8, line: &str) -> bool {
+pub(crate) fn refuses(ended: &Ending, code: u8, line: &str) -> bool {
     exit_code(&ended.status) == code
         && ended.err.as_slice() == line.as_bytes()
         && ended.out.is_empty()
