@@ -133,6 +133,9 @@ overrides_of words texts = placed (drop 1 (places words)) (drop 1 texts)
 abbrev pub seen_word : PlacedWord → Placed
 seen_word word = record { place = word.place; text = word.text.now }
 
+abbrev pub is_short_word : PlacedWord → Bool
+is_short_word word = is_short word.text.now
+
 -- Without a limit of its own a save has 2^32 bytes.
 pub record IsSaveOf (given : Given) (save : SaveRequest) : Type 0 where
   pub file : given.save ≡ Some save.file.now
@@ -145,6 +148,7 @@ IsSaveGiven given save = MatchOption save (given.save ≡ None) (IsSaveOf given)
 pub record IsJobOf (words : List Text) (given : Given) (texts : List Text) (asks : JobRequest) : Type 0 where
   pub job_file : asks.job_file.now ≡ job_file_of texts
   pub overrides : map seen_word asks.overrides.items ≡ overrides_of words texts
+  pub short : list_all is_short_word asks.overrides.items ≡ true
   pub parallel : asks.parallel ≡ given.parallel
   pub save : IsSaveGiven given asks.save
 

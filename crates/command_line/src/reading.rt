@@ -1,11 +1,11 @@
 //! The words of a call, read.
 
-ghost use Rattle.std.specs.Prelude.{◌≡◌, ◌<◌, ◌^◌, drop, map, length, IfOk};
+ghost use Rattle.std.specs.Prelude.{◌≡◌, ◌<◌, ◌^◌, true, drop, map, length, IfOk};
 ghost use Rattle.std.specs.List.{list_all};
 ghost use Rattle.std.specs.String.{string_bytes};
 ghost use Rattle.clap.specs.Matches.{found_of};
 ghost use Rattle.clap.specs.Walk.{rows_of};
-ghost use Rattle.command_line.specs.Request.{is_short, are_short, is_help, positionals, placed, seen_word, seen_options, job_file_of, IsSaveGiven, IsRequestOf, IsAnswerBy, IsAnswerOf};
+ghost use Rattle.command_line.specs.Request.{is_short, are_short, is_help, positionals, placed, is_short_word, seen_word, seen_options, job_file_of, IsSaveGiven, IsRequestOf, IsAnswerBy, IsAnswerOf};
 
 use crate::command::matched;
 use crate::options::{Options, options_of};
@@ -64,7 +64,9 @@ fn are_short_texts(texts: &[&str]) -> bool
 
 // The texts behind the first, each with its place.
 fn paired<'a>(alloc: Global, places: &[u32], texts: &[&'a str]) -> Result<Vec<PlacedWord<'a>>, OutOfMemory>
-    ensures { IfOk result (λ found. map seen_word found.items ≡ placed (drop 1 places.now) (drop 1 (map (λ text. text.now) texts.now))) }
+    requires { list_all is_short (map (λ text. text.now) texts.now) ≡ true }
+    ensures short { IfOk result (λ found. list_all is_short_word found.items ≡ true) }
+    ensures value { IfOk result (λ found. map seen_word found.items ≡ placed (drop 1 places.now) (drop 1 (map (λ text. text.now) texts.now))) }
 {
     let mut found = Vec::new(alloc);
     for i in 1..places.len().min(texts.len()) {
@@ -104,7 +106,8 @@ fn request_of<'a>(
     texts: &[&'a str],
     options: &Options<'a>,
 ) -> Result<Request<'a>, OutOfMemory>
-    requires { length words.now < 2 ^ 31 }
+    requires few { length words.now < 2 ^ 31 }
+    requires short { list_all is_short (map (λ text. text.now) texts.now) ≡ true }
     ensures { IfOk result (IsRequestOf (map string_bytes words.now) (seen_options options.now) (map (λ text. text.now) texts.now)) }
 {
     match options.sample {

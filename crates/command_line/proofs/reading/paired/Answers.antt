@@ -19,8 +19,8 @@ spent (p ∷ ps) [] i over =
 spent (p ∷ ps) (t ∷ ts) zero over = absurd (omega arith)
 spent (p ∷ ps) (t ∷ ts) (suc i) over = spent ps ts i (omega arith)
 
-pub returns : goal.returns
-returns c =
+pub returns-clause-value : goal.returns-clause-value
+returns-clause-value c =
     let passed : min (length c.args.places.now) (length c.args.texts.now) ≤ c.loop-i.i = search rules in
     sym (ap (placed (drop 1 c.args.places.now)) (drop-map (λ text. text.now) 1 c.args.texts.now) ∙ c.loop-i.invariant.whole
     ∙ ap (λ (l : List Placed). map seen_word c.loop-i.found.items ++ l) (spent c.args.places.now c.args.texts.now c.loop-i.i passed) ∙ append-nil _)
