@@ -9,3 +9,6 @@ mod request;
 
 pub use reading::read;
 pub use request::{JobRequest, PlacedWord, Request, SaveRequest, WordsFault};
+
+#[cfg(test)]
+mod tests;

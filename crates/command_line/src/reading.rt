@@ -63,7 +63,11 @@ fn are_short_texts(texts: &[&str]) -> bool
 }
 
 // The texts behind the first, each with its place.
-fn paired<'a>(alloc: Global, places: &[u32], texts: &[&'a str]) -> Result<Vec<PlacedWord<'a>>, OutOfMemory>
+fn paired<'a>(
+    alloc: Global,
+    places: &[u32],
+    texts: &[&'a str],
+) -> Result<Vec<PlacedWord<'a>>, OutOfMemory>
     requires { list_all is_short (map (λ text. text.now) texts.now) ≡ true }
     ensures short { IfOk result (λ found. list_all is_short_word found.items ≡ true) }
     ensures value { IfOk result (λ found. map seen_word found.items ≡ placed (drop 1 places.now) (drop 1 (map (λ text. text.now) texts.now))) }
@@ -143,7 +147,11 @@ fn answer_of<'a>(
 }
 
 // What the matches ask for.
-fn matches_answer<'a>(alloc: Global, words: &[String], matches: &ArgMatches<'a>) -> Result<Request<'a>, WordsFault>
+fn matches_answer<'a>(
+    alloc: Global,
+    words: &[String],
+    matches: &ArgMatches<'a>,
+) -> Result<Request<'a>, WordsFault>
     requires { length words.now < 2 ^ 31 }
     ensures { IsAnswerBy (map string_bytes words.now) (rows_of (found_of matches.now)) (positionals (rows_of (found_of matches.now))) result }
 {

@@ -13,9 +13,10 @@ pub returns-in-Ok-clause-ok : goal.returns-in-Ok-clause-ok
 unfolding faults_at rows_at
 returns-in-Ok-clause-ok c =
     let app = c.in_ok-command.ensures in
-    let texts = map string_bytes c.args.words.now in
-    (ap (λ (a : App). fault_of a texts) (sym app) ∙ c.in-Ok.ensures.kinds (ap is_simple_and_free app ∙ command_free),
-     (c.in-Ok.ensures.matches (ap is_simple app ∙ command_simple)).0 ∙ ap (λ (a : App). matches_of a texts) app)
+    let texts = map string_bytes c.args.words.now in (
+      ap (λ (a : App). fault_of a texts) (sym app) ∙ c.in-Ok.ensures.kinds (ap is_simple_and_free app ∙ command_free),
+      (c.in-Ok.ensures.matches (ap is_simple app ∙ command_simple)).0 ∙ ap (λ (a : App). matches_of a texts) app,
+    )
 
 pub returns-after-kind-clause-usage : goal.returns-after-kind-clause-usage
 unfolding faults_at
