@@ -1,11 +1,10 @@
 -- The command is one of which clap says what it makes of words.
-use Rattle.std.proofs.Common.{◌≡◌, ◌⊎◌, true, refl, inl, inr, List, [], ◌∷◌}
+use Rattle.std.proofs.Common.{◌≡◌, true, refl, inl, inr, [], ◌∷◌}
 use Rattle.clap.specs.Values.{kind_of}
-use Rattle.clap.specs.Kinds.{Kinds, HasKind, IsAmong}
+use Rattle.clap.specs.Kinds.{Kinds, HasKind}
 use Rattle.clap.specs.Simple.{is_simple}
 use Rattle.clap.specs.Faults.{is_simple_and_free}
 use Rattle.clap.specs.declared.error.Error.{Error}
-use Rattle.clap.specs.declared.error.kind.ErrorKind.{ErrorKind}
 use Rattle.clap.specs.declared.error.kind.ErrorKind.TheVariants.{OutOfMemory}
 use Rattle.clap.proofs.OnLiterals.{clap_on_literals}
 use Rattle.command_line.specs.Command.{command}

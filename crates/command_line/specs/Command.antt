@@ -1,6 +1,6 @@
 -- The one simple command by which the words of a call are read. The project's own; what a command makes of words is
 -- the function of them that clap states.
-use Rattle.std.specs.Prelude.{ℕ, ◌^◌, List, Some, true, codes}
+use Rattle.std.specs.Prelude.{ℕ, List, Some, true, codes}
 use Rattle.clap.specs.Lexer.{usize_max}
 use Rattle.clap.specs.Walk.{Row, Rule, Text}
 use Rattle.clap.specs.Simple.{App, matches_of, new_app, new_rule, on_top, with_rule}

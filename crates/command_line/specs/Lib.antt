@@ -1,3 +1,4 @@
 pub mod Command
 pub mod Places
 pub mod Request
+pub mod Laws

@@ -1,10 +1,10 @@
-use Rattle.std.proofs.Common.{◌≡◌, ◌∙◌, ap, sym, map, List, rules}
+use Rattle.std.proofs.Common.{◌≡◌, ◌∙◌, ap, sym, map, rules}
 use Rattle.std.specs.String.{string_bytes}
 use Rattle.clap.specs.Values.{kind_of}
 use Rattle.clap.specs.Simple.{App, is_simple, matches_of}
 use Rattle.clap.specs.Faults.{fault_of, is_simple_and_free}
 use Rattle.clap.specs.declared.error.kind.ErrorKind.TheVariants as kind
-use Rattle.command_line.specs.Command.{command, faults_at, rows_at}
+use Rattle.command_line.specs.Command.{faults_at, rows_at}
 use Rattle.command_line.proofs.Simple.{command_simple, command_free, for_memory}
 use Rattle.command_line.proofs.command.matched.Goals.{in-OutOfMemory, in_default}
 use Rattle.command_line.proofs.command.matched.Goals as goal
