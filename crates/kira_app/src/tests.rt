@@ -341,10 +341,44 @@ fn faults_of_list_files(rt: HostRuntime) -> Result<(), Fail> {
 
 #[test]
 fn other_words_are_not_served(rt: HostRuntime) -> Result<(), Fail> {
-    for line in ["", "-p 2 jobs.yaml", "jobs.yaml --save=s", "jobs.yaml -"] {
+    for line in ["--save=s jobs.yaml", "--sample=2"] {
         let ended = call(rt.alloc(), &TADPOLE, line)?;
         assert!(rt; refuses(&ended, 21, "kira: not yet\n"), "{line}");
     }
+    Ok(())
+}
+
+const USAGE: &str = "kira: usage: kira [-p N] [--save=FILE] [--save-limit=N] [--units=N] JOBFILE [NAME=VALUE]... or kira [-p N] --sample=N\n";
+
+#[test]
+fn words_of_no_call(rt: HostRuntime) -> Result<(), Fail> {
+    let lines = ["", "--units=1 jobs.yaml", "-p 0 jobs.yaml", "--sample=2 jobs.yaml", "-p 2 -p 2 jobs.yaml", "--help jobs.yaml"];
+    for line in lines {
+        let ended = call(rt.alloc(), &TADPOLE, line)?;
+        assert!(rt; refuses(&ended, 2, USAGE), "{line}");
+    }
+    Ok(())
+}
+
+#[test]
+fn the_usage_line(rt: HostRuntime) -> Result<(), Fail> {
+    let ended = call(rt.alloc(), &TADPOLE, "--help")?;
+    assert!(rt; exit_code(&ended.status) == 0 && ended.err.is_empty());
+    assert!(rt; ended.out.as_slice() == USAGE.as_bytes());
+    Ok(())
+}
+
+// Options don't change a table, and two hyphens end them. The place of an override counts them.
+#[test]
+fn options_beside_a_job(rt: HostRuntime) -> Result<(), Fail> {
+    let alloc = rt.alloc();
+    let plain = call(alloc, &TADPOLE, "jobs.yaml d=2")?;
+    for line in ["-- jobs.yaml d=2", "-p 2 jobs.yaml d=2", "jobs.yaml --parallel=64 d=2"] {
+        let ended = call(alloc, &TADPOLE, line)?;
+        assert!(rt; exit_code(&ended.status) == 0 && ended.out.as_slice() == plain.out.as_slice(), "{line}");
+    }
+    let ended = call(alloc, &TADPOLE, "-p 2 jobs.yaml m3=1")?;
+    assert!(rt; refuses(&ended, 3, "kira: words:4: unknown name\n"));
     Ok(())
 }
 
