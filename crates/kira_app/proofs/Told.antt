@@ -32,8 +32,8 @@ by_status (status.Singular c) failed failed' refused refused' go on h = on h
 by_status (status.RulesClash m r) failed failed' refused refused' go on h = on h
 by_status (status.Composite f) failed failed' refused refused' go on h = on h
 by_status (status.TooMany what count) failed failed' refused refused' go on h = on h
-by_status status.Usage failed failed' refused refused' go on h = on h
-by_status status.NotYet failed failed' refused refused' go on h = on h
+by_status status.Usage failed failed' refused refused' go on h = h
+by_status status.NotYet failed failed' refused refused' go on h = h
 
 -- ---- one step and what follows it
 

@@ -43,6 +43,14 @@ is_plain given = not (is_some given.sample) && not (is_some given.save)
 unfoldable pub is_served : List Bytes → Bool
 is_served words = is_plain (given_of (rows_at words))
 
+-- the words ask for a job that is served
+abbrev pub AsksJob : List Bytes → Type 0
+AsksJob words = AsksCall words × (is_served words ≡ true)
+
+-- the words ask for a save or a sample, which aren't served
+abbrev pub AsksUnserved : List Bytes → Type 0
+AsksUnserved words = AsksCall words × (is_served words ≡ false)
+
 -- ---- what is made of them
 
 -- the words ask for a job that is served, and these are its file and its overrides
@@ -55,7 +63,7 @@ pub record IsServedJob (words : List Bytes) (asks_for : ServedJob) : Type 0 wher
 -- the words are answered with this status, for which no file is read
 abbrev pub AreAnswered : List Bytes → Status → Type 0
 AreAnswered words status.Usage = AsksUsage words
-AreAnswered words status.NotYet = AsksCall words × (is_served words ≡ false)
+AreAnswered words status.NotYet = AsksUnserved words
 AreAnswered words status.OutOfMemory = ⊤
 AreAnswered words other = ⊥
 

@@ -348,12 +348,21 @@ fn other_words_are_not_served(rt: HostRuntime) -> Result<(), Fail> {
     Ok(())
 }
 
-const USAGE: &str = "kira: usage: kira [-p N] [--save=FILE] [--save-limit=N] [--units=N] JOBFILE [NAME=VALUE]... or kira [-p N] --sample=N\n";
+const USAGE: &str =
+    "kira: usage: kira [-p N] [--save=FILE] [--save-limit=N] [--units=N] JOBFILE [NAME=VALUE]... or kira [-p N] --sample=N\n";
+
+const NO_CALLS: &[&str] = &[
+    "",
+    "--units=1 jobs.yaml",
+    "-p 0 jobs.yaml",
+    "--sample=2 jobs.yaml",
+    "-p 2 -p 2 jobs.yaml",
+    "--help jobs.yaml",
+];
 
 #[test]
 fn words_of_no_call(rt: HostRuntime) -> Result<(), Fail> {
-    let lines = ["", "--units=1 jobs.yaml", "-p 0 jobs.yaml", "--sample=2 jobs.yaml", "-p 2 -p 2 jobs.yaml", "--help jobs.yaml"];
-    for line in lines {
+    for line in NO_CALLS {
         let ended = call(rt.alloc(), &TADPOLE, line)?;
         assert!(rt; refuses(&ended, 2, USAGE), "{line}");
     }
@@ -368,16 +377,34 @@ fn the_usage_line(rt: HostRuntime) -> Result<(), Fail> {
     Ok(())
 }
 
-// Options don't change a table, and two hyphens end them. The place of an override counts them.
+const TADPOLE_IN_TWO: &str = "\
+tad[1] = 1*tad[1]
+tad[2] = 0
+tad[3] = 0
+masters 1
+tad[1]
+";
+
+const SAME_CALLS: &[&str] = &[
+    "-- jobs.yaml d=2",
+    "-p 2 jobs.yaml d=2",
+    "jobs.yaml --parallel=64 d=2",
+];
+
+// Options don't change a table, and two hyphens end them.
 #[test]
 fn options_beside_a_job(rt: HostRuntime) -> Result<(), Fail> {
-    let alloc = rt.alloc();
-    let plain = call(alloc, &TADPOLE, "jobs.yaml d=2")?;
-    for line in ["-- jobs.yaml d=2", "-p 2 jobs.yaml d=2", "jobs.yaml --parallel=64 d=2"] {
-        let ended = call(alloc, &TADPOLE, line)?;
-        assert!(rt; exit_code(&ended.status) == 0 && ended.out.as_slice() == plain.out.as_slice(), "{line}");
+    for line in SAME_CALLS {
+        let ended = call(rt.alloc(), &TADPOLE, line)?;
+        assert!(rt; prints(&ended, TADPOLE_IN_TWO), "{line}");
     }
-    let ended = call(alloc, &TADPOLE, "-p 2 jobs.yaml m3=1")?;
+    Ok(())
+}
+
+// The place of an override counts the options.
+#[test]
+fn places_count_all_words(rt: HostRuntime) -> Result<(), Fail> {
+    let ended = call(rt.alloc(), &TADPOLE, "-p 2 jobs.yaml m3=1")?;
     assert!(rt; refuses(&ended, 3, "kira: words:4: unknown name\n"));
     Ok(())
 }

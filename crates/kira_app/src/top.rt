@@ -14,7 +14,7 @@ ghost use Rattle.kira_app.specs.declared.status.Status.{Status as StatusValue};
 ghost use Rattle.kira_app.specs.Steps.{plain};
 ghost use Rattle.kira_app.specs.Message.{message_text, usage_line, IsToldOf};
 ghost use Rattle.kira_app.specs.Told.{IfTold, Tells};
-ghost use Rattle.kira_app.specs.Words.{AsksCall, AsksHelp, AsksUsage, IsServedJob};
+ghost use Rattle.kira_app.specs.Words.{AsksCall, AsksHelp, AsksUsage, AsksJob, AsksUnserved, AreAnswered, IsServedJob};
 ghost use Rattle.kira_app.specs.Plans.{PlanOf};
 ghost use Rattle.kira_app.specs.TopClauses.{IsTextOf, IsSent, IsPartlySent, HavePlan, AreRefused, IsDivisorIn, IsPrime, IsMissedIn, HasCause, HasEnded, HasShown, IsExplained, IsAnsweredBy};
 
@@ -71,35 +71,37 @@ fn ended<F: Files, O: Sink>(
     }
 }
 
-// Tells a status that names no file, and answers it.
-fn explained<E: Sink>(alloc: Global, status: Status, err: &mut E) -> Status
-    ensures same { result ≡ status }
-    ensures told { IsToldOf (message_text [] (plain status)) (E.told err.old) (E.told err.new) (E.faults err.old) (E.faults err.new) }
+// The refusal of words that no job is read for.
+fn refused<F: Files, O: Sink>(
+    alloc: Global,
+    words: &[String],
+    status: Status,
+    files: &F,
+    out: &O,
+) -> Refusal
+    requires { AreAnswered (map string_bytes words.now) status }
+    ensures cause { HasEnded (record {
+      words = map string_bytes words.now;
+      held = F.held files.now;
+      faults = F.faults files.now;
+      faults_after = F.faults files.now;
+      told = O.told out.now;
+      told_after = O.told out.now;
+      out_faults = O.faults out.now;
+      out_faults_after = O.faults out.now;
+    }) (Err result) }
+    ensures plain { result ≡ plain status }
 {
-    let refusal = Refusal::plain(alloc, status);
-    tell(&refusal, "", err);
-    refusal.status
-}
-
-// Writes the usage line to `out`.
-fn show_usage<O: Sink, E: Sink>(alloc: Global, out: &mut O, err: &mut E) -> Status
-    ensures shown { HasShown result (O.told out.old) (O.told out.new) (O.faults out.old) (O.faults out.new) }
-    ensures ok_err { result ≡ Status.Ok → err.new ≡ err.old }
-    ensures told { result ≢ Status.Ok → IsToldOf (message_text [] (plain result)) (E.told err.old) (E.told err.new) (E.faults err.old) (E.faults err.new) }
-{
-    match send(usage_line().as_bytes(), out) {
-        Ok(()) => Status::Ok,
-        Err(_) => explained(alloc, Status::WriteFault, err),
-    }
+    Refusal::plain(alloc, status)
 }
 
 /// Reduces the job that the words and the files ask for, and writes its table to `out`.
 ///
 /// The words are options and positionals: the name of the job file, and then words NAME=VALUE that override
-/// values of its numeric point. The one word `--help` asks for the usage line. The files are the job file, `config/integralfamilies.yaml`,
-/// `config/kinematics.yaml` and the list files that the job names. At `Ok` the whole text of the one reduced
-/// list of the seeded equations was written and flushed. At every other answer its message is written to
-/// `err`; nothing is written to `out` before the whole text is made.
+/// values of its numeric point. The one word `--help` asks for the usage line alone. The files are the job
+/// file, `config/integralfamilies.yaml`, `config/kinematics.yaml` and the list files that the job names. At
+/// `Ok` the whole text of the one reduced list of the seeded equations was written and flushed. At every other
+/// answer its message is written to `err`; nothing is written to `out` before the whole text is made.
 pub fn kira_alone<F: Files, O: Sink, E: Sink>(
     alloc: Global,
     words: &[String],
@@ -112,12 +114,12 @@ pub fn kira_alone<F: Files, O: Sink, E: Sink>(
     ensures ok_counts { result ≡ Status.Ok → (F.faults files.new ≡ F.faults files.old) × (O.faults out.new ≡ O.faults out.old) }
     ensures ok_err { result ≡ Status.Ok → err.new ≡ err.old }
 
-    // The usage line was sent, or a prefix of it where the count rose.
+    // For `--help` the usage line was sent, or a prefix of it where the count rose.
     ensures help { AsksHelp (map string_bytes words.now) → HasShown result (O.told out.old) (O.told out.new) (O.faults out.old) (O.faults out.new) }
 
     // Each other answer comes by its cause.
     ensures usage { result ≡ Status.Usage → AsksUsage (map string_bytes words.now) }
-    ensures not_yet { result ≡ Status.NotYet → IfTold (F.held files.old) (AreRefused (map string_bytes words.now) Status.NotYet) }
+    ensures not_yet { result ≡ Status.NotYet → AsksUnserved (map string_bytes words.now) }
     ensures input { (fault : InputFault) → result ≡ Status.Input fault → IfTold (F.held files.old) (AreRefused (map string_bytes words.now) (Status.Input fault)) }
     ensures missing { IsMissedIn (F.held files.old) (F.faults files.old) (F.faults files.new) result }
     ensures singular { (cause : Singular) → result ≡ Status.Singular cause → IfTold (F.held files.old) (AreRefused (map string_bytes words.now) (Status.Singular cause)) }
@@ -132,13 +134,14 @@ pub fn kira_alone<F: Files, O: Sink, E: Sink>(
 
     // And where the cause is there, the answer comes.
     ensures words_first { AsksUsage (map string_bytes words.now) → (result ≡ Status.Usage) ⊎ (result ≡ Status.OutOfMemory) }
+    ensures not_served { AsksUnserved (map string_bytes words.now) → (result ≡ Status.NotYet) ⊎ (result ≡ Status.OutOfMemory) }
     ensures first_refusal { (held : Held) (refusal : StatusValue) → F.held files.old ≡ Some held → AreRefused (map string_bytes words.now) refusal held
         → ¬ (Rose (F.faults files.old) (F.faults files.new)) → IsAnsweredBy (map string_bytes words.now) held refusal result }
 
     // Nothing is written before the whole text is made.
     ensures silent { result ≢ Status.Ok → result ≢ Status.WriteFault → out.new ≡ out.old }
     ensures message { result ≢ Status.Ok → IsExplained (map string_bytes words.now) (F.held files.old) result (E.told err.old) (E.told err.new) (E.faults err.old) (E.faults err.new) }
-    ensures unread { ¬ (AsksCall (map string_bytes words.now)) → files.new ≡ files.old }
+    ensures unread { ¬ (AsksJob (map string_bytes words.now)) → files.new ≡ files.old }
     ensures same_files { F.held files.new ≡ F.held files.old }
 
     // Where the job has a plan, the modulus is prime and nothing outside fails, there is a table.
@@ -148,8 +151,18 @@ pub fn kira_alone<F: Files, O: Sink, E: Sink>(
 {
     jobs_agree();
     match read_words(alloc, words) {
-        Wanted::Help => show_usage(alloc, out, err),
-        Wanted::Refused(status) => explained(alloc, status, err),
+        Wanted::Help => match send(usage_line().as_bytes(), out) {
+            Ok(()) => Status::Ok,
+            Err(_) => {
+                tell(&Refusal::plain(alloc, Status::WriteFault), "", err);
+                Status::WriteFault
+            }
+        },
+        Wanted::Refused(status) => {
+            let refusal = refused(alloc, words, status, files, out);
+            tell(&refusal, "", err);
+            refusal.status
+        }
         Wanted::Job(job) => match ended(alloc, &job, files, out) {
             Ok(()) => Status::Ok,
             Err(refusal) => {

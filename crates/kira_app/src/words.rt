@@ -1,9 +1,9 @@
 //! The words of a call.
 
-ghost use Rattle.std.specs.Prelude.{◌≡◌, true, map, IfOk};
+ghost use Rattle.std.specs.Prelude.{◌≡◌, true, map, Ok, Err, IfOk};
 ghost use Rattle.std.specs.List.{list_all};
 ghost use Rattle.std.specs.String.{string_bytes};
-ghost use Rattle.command_line.specs.Request.{is_short_word, seen_word};
+ghost use Rattle.command_line.specs.Request.{is_short_word, seen_word, IsAnswerOf};
 ghost use Rattle.kira_app.specs.Words.{override_of, IsServing, IsWanted};
 
 use crate::Status;
@@ -61,15 +61,35 @@ fn served<'a>(alloc: Global, request: &JobRequest<'a>) -> Wanted<'a>
     }
 }
 
+// What is made of the request of some words.
+fn asked_for<'a>(alloc: Global, words: &[String], request: Request<'a>) -> Wanted<'a>
+    requires { IsAnswerOf (map string_bytes words.now) (Ok request) }
+    ensures { IsWanted (map string_bytes words.now) result }
+{
+    match request {
+        Request::Help => Wanted::Help,
+        Request::Job(job) => served(alloc, &job),
+        Request::Sample { .. } => Wanted::Refused(Status::NotYet),
+    }
+}
+
+// What is made of words that were refused.
+fn unread<'a>(words: &[String], fault: WordsFault) -> Wanted<'a>
+    requires { IsAnswerOf (map string_bytes words.now) (Err fault) }
+    ensures { IsWanted (map string_bytes words.now) result }
+{
+    match fault {
+        WordsFault::Usage => Wanted::Refused(Status::Usage),
+        WordsFault::OutOfMemory => Wanted::Refused(Status::OutOfMemory),
+    }
+}
+
 /// What the words of a call ask for.
 pub(crate) fn read_words<'a>(alloc: Global, words: &'a [String]) -> Wanted<'a>
     ensures { IsWanted (map string_bytes words.now) result }
 {
     match read(alloc, words) {
-        Ok(Request::Help) => Wanted::Help,
-        Ok(Request::Job(job)) => served(alloc, &job),
-        Ok(Request::Sample { .. }) => Wanted::Refused(Status::NotYet),
-        Err(WordsFault::Usage) => Wanted::Refused(Status::Usage),
-        Err(WordsFault::OutOfMemory) => Wanted::Refused(Status::OutOfMemory),
+        Ok(request) => asked_for(alloc, words, request),
+        Err(fault) => unread(words, fault),
     }
 }
