@@ -1189,7 +1189,7 @@ fn faults_that_two_places_make(rt: HostRuntime) -> Result<(), Fail> {
     let ended = call(alloc, texts, "jobs.yaml s=1")?;
     assert!(rt; refuses(alloc, &ended, "jobs.yaml:19: no value given", "")?);
     let ended = call(alloc, texts, "jobs.yaml d=1")?;
-    assert!(rt; matches!(ended.status, Status::NotYet));
+    assert!(rt; refuses(alloc, &ended, "listed:", "0: no such file")?);
 
     let text = edited(alloc, FAMILIES, 4, 1, "    top_level_sectors: [1]")?;
     let texts = Texts {
