@@ -6,14 +6,14 @@ use kira_outside::{HostFiles, HostSink};
 use std::process::ExitCode;
 use std::{env, io};
 
-// The words after the program's name. One that isn't text is no word that is served.
+// The words after the program's name. One that isn't text is no word of a call.
 fn words(rt: &HostRuntime) -> Result<Vec<String>, Status> {
     match env::args(rt) {
         Ok(args) => args
             .skip(1)
             .collect(rt.alloc())
             .map_err(|_| Status::OutOfMemory),
-        Err(error) if error.kind() == io::ErrorKind::InvalidData => Err(Status::NotYet),
+        Err(error) if error.kind() == io::ErrorKind::InvalidData => Err(Status::Usage),
         Err(_) => Err(Status::OutOfMemory),
     }
 }

@@ -20,7 +20,7 @@ use Rattle.job_point.specs.declared.faults.Singular.TheVariants as singular
 use Rattle.job_point.specs.Steps as point
 use Rattle.job_point.specs.Agreement.{IsSameFault, IsSameAnswer, NamesDivisor}
 use Rattle.job_plan.specs.Laws.{OutlineIsSingle, OutlinesHaveAModulus, PlansAgree, PlansNameDivisors}
-use Rattle.job_plan.specs.Outlines.{Outline, has_symmetry}
+use Rattle.job_plan.specs.Outlines.{Outline}
 use Rattle.job_plan.specs.Readings.{ReadsOutline}
 use Rattle.job_plan.specs.Plans.{Plan, IsPlan}
 use Rattle.kira_app.specs.declared.job_files.Trees.{Trees}
@@ -28,9 +28,11 @@ use Rattle.kira_app.specs.declared.status.Status.{Status}
 use Rattle.kira_app.specs.declared.status.Status.TheVariants as status
 use Rattle.kira_app.specs.declared.refusal.Refusal.{Refusal}
 use Rattle.kira_app.specs.Steps.{Answer, Step, Is, After, Then, Each, plain, OfReading, OfPlan}
-use Rattle.kira_app.specs.Words.{are_served, job_file, overrides_of}
+use Rattle.command_line.specs.Request.{Asked}
+use Rattle.command_line.specs.Request as line
+use Rattle.kira_app.specs.Words.{asks, is_served, job_file, overrides_of}
 use Rattle.kira_app.specs.Sources.{Sources, TreeOf, KinematicsOf, FamiliesOf, TreesOf, ListsOf, OutlineOf, Outlines, SourcesWith, ReadsSources, list_of_entry, no_list, tree_of}
-use Rattle.kira_app.specs.Plans.{status_of, refusal_of, PlanOfSources, served_words, PlanOf}
+use Rattle.kira_app.specs.Plans.{status_of, refusal_of, PlanOfSources, ServesAs, ServesWords, PlanOf}
 use Rattle.kira_app.specs.TopClauses.{IsAlike, IsDivisorIn}
 use Rattle.kira_app.specs.Laws.{AreAlike, NamesDivisorIn, JobsAgree, JobsNameDivisors}
 
@@ -41,6 +43,11 @@ Single {A} step = (r q : Answer A) → step r → step q → r ≡ q
 
 single_is : {A : Type 0} (answer : Answer A) → Single (Is answer)
 single_is answer r q h k = sym h ∙ k
+
+single_words : (asked : Asked) (served : Bool) → Single (ServesAs asked served)
+single_words line.usage served r q h k = single_is _ r q h k
+single_words line.help served r q h k = absurd h
+single_words line.call served r q h k = single_is _ r q h k
 
 single_after : {A B : Type 0} (next : A → Step B) → ((a : A) → Single (next a)) → (o : Answer A) → Single (After o next)
 single_after next same (Ok a) r q h k = same a r q h k
@@ -90,7 +97,7 @@ single_lists files held = single_each _ (λ found list. single_is _) [] files
 single_sources : OutlineIsSingle → (overrides : List Override) (name : Bytes) (held : Held) → Single (ReadsSources overrides name held)
 single_sources law overrides name held =
     single_then _ _
-    (single_then _ _ (single_trees name held) (λ trees. single_then _ _ (single_outline law overrides trees) (λ outline. single_then _ _ (single_is _) (λ _. single_is _))))
+    (single_then _ _ (single_trees name held) (λ trees. single_then _ _ (single_outline law overrides trees) (λ outline. single_is _)))
     (λ both. single_then _ _ (single_lists both.1.select.files held) (λ lists. single_is _))
 
 -- ---- a value that follows a value
@@ -112,10 +119,9 @@ trees_read overrides name held sources h =
     let one = parted _ _ sources h in
     let two = parted _ _ one.0 one.1 in
     let three = parted _ _ one.0 two.2 in
-    let four = parted _ _ one.0 three.2 in
-    let both : one.0 ≡ (two.0, three.0) = ap (value_or one.0) (sym four.2) in
-    let five = parted _ _ sources one.2 in
-    let whole : sources ≡ record { trees = one.0.0; lists = five.0 } = ap (value_or sources) (sym five.2) in
+    let both : one.0 ≡ (two.0, three.0) = ap (value_or one.0) (sym three.2) in
+    let four = parted _ _ sources one.2 in
+    let whole : sources ≡ record { trees = one.0.0; lists = four.0 } = ap (value_or sources) (sym four.2) in
     subst (λ (t : Trees). TreesOf name held (Ok t)) (sym (ap (λ (s : Sources). s.trees) whole ∙ ap (λ (b : Trees × Outline). b.0) both)) two.1
 
 -- ---- the plan of an outline
@@ -129,6 +135,7 @@ alike (status.Input f) = refl
 alike (status.Composite f) = refl
 alike (status.TooMany what count) = refl
 alike status.Ok = refl
+alike status.Usage = refl
 alike status.NotYet = refl
 alike status.ReadFault = refl
 alike status.WriteFault = refl
@@ -204,7 +211,7 @@ module _ (single : OutlineIsSingle) (moduli : OutlinesHaveAModulus) (law : Plans
 
   job_agrees : Agreeing (PlanOf words held)
   job_agrees =
-      then_agrees _ _ (single_is _) (λ _ served.
+      then_agrees _ _ (single_words (asks words) (is_served words)) (λ _ served.
       then_agrees _ _ (single_sources single (overrides_of words) (job_file words) held) (λ sources read.
       then_agrees _ _ (single_outline single (overrides_of words) sources.trees) (λ outline outlined.
       outline_agrees words held sources.trees (trees_read (overrides_of words) (job_file words) held sources read) outline outlined moduli law sources.lists)))
@@ -266,8 +273,10 @@ free_entry : (number : ℕ) (name : Bytes) (entry : Option Bytes) → IsFree (li
 free_entry number name None = refl
 free_entry number name (Some bytes) = free_if (nat_lt (2 ^ 24) (length bytes)) (Err (no_list number name TooLong)) (Ok bytes) refl tt
 
-none_served : (words : List Bytes) → NoDivisor (Is (served_words words))
-none_served words = none_is (served_words words) (free_if (are_served words) (Ok tt) (Err (plain status.NotYet)) tt refl)
+none_served : (asked : Asked) (served : Bool) → NoDivisor (ServesAs asked served)
+none_served line.usage served = none_is (Err (plain status.Usage)) refl
+none_served line.help served = λ refusal h. absurd h
+none_served line.call served = none_is _ (free_if served (Ok tt) (Err (plain status.NotYet)) tt refl)
 
 none_tree : (file : File) (name : Bytes) (held : Held) → NoDivisor (TreeOf file name held)
 none_tree file name held = none_reading (input.Is (tree_of file name held))
@@ -282,7 +291,7 @@ none_trees name held =
 none_sources : (overrides : List Override) (name : Bytes) (held : Held) → NoDivisor (ReadsSources overrides name held)
 none_sources overrides name held =
     none_then _ _
-    (none_then _ _ (none_trees name held) (λ trees. none_then _ _ (none_outline overrides trees) (λ outline. none_then _ _ (none_is _ (free_if (has_symmetry outline) _ _ refl tt)) (λ _. none_is _ tt))))
+    (none_then _ _ (none_trees name held) (λ trees. none_then _ _ (none_outline overrides trees) (λ outline. none_is _ tt)))
     (λ both. none_then _ _ (none_each _ (λ found list. none_is _ (free_entry (length found) list.name (map.get held list.name))) [] both.1.select.files) (λ lists. none_is _ tt))
 
 module _ (moduli : OutlinesHaveAModulus) (law : PlansNameDivisors) (words : List Bytes) (held : Held) (fault : FieldComposite) where
@@ -314,7 +323,7 @@ module _ (moduli : OutlinesHaveAModulus) (law : PlansNameDivisors) (words : List
 
   job_names : Naming (PlanOf words held)
   job_names =
-      names_then _ _ (names_none (Is (served_words words)) (none_served words)) (λ _ served.
+      names_then _ _ (names_none (ServesWords words) (none_served (asks words) (is_served words))) (λ _ served.
       names_then _ _ (names_none (ReadsSources (overrides_of words) (job_file words) held) (none_sources (overrides_of words) (job_file words) held)) (λ sources read.
       names_then _ _ (names_none (OutlineOf (overrides_of words) sources.trees) (none_outline (overrides_of words) sources.trees)) (λ outline outlined.
       outline_names sources.trees (trees_read (overrides_of words) (job_file words) held sources read) outline outlined sources.lists)))

@@ -1,5 +1,5 @@
 -- From what a call answers to its cause, and back.
-use Rattle.std.proofs.Common.{◌≡◌, ◌≢◌, ◌⊎◌, ◌<◌, inl, inr, ℕ, Bool, true, false, cond, Option, Some, List, [], Ok, Err, IfErr, Result, refl, sym, ap, ◌∙◌, subst, arith}
+use Rattle.std.proofs.Common.{◌≡◌, ◌≢◌, ◌⊎◌, ◌<◌, inl, inr, ℕ, Bool, true, false, Option, Some, List, [], Ok, Err, IfErr, Result, refl, sym, ap, ◌∙◌, subst, arith}
 use Rattle.std.specs.Result.{is_ok, IsErrAnd}
 use Rattle.std.proofs.lemmas.Bool.{true≢false}
 use Rattle.yaml_text.specs.Lines.{Bytes}
@@ -20,12 +20,15 @@ use Rattle.kira_app.specs.declared.status.Status.TheVariants as status
 use Rattle.kira_app.specs.declared.refusal.Refusal.{Refusal}
 use Rattle.kira_app.specs.Steps.{Answer, Step, Is, After, Then, plain, OfPlan}
 use Rattle.kira_app.specs.Told.{IfTold, ByStatus, SaysMissing, Answers, RefusesTold, Tells}
-use Rattle.kira_app.specs.Words.{are_served, job_file, overrides_of}
+use Rattle.command_line.specs.Request.{Asked}
+use Rattle.command_line.specs.Request as line
+use Rattle.kira_app.specs.declared.words.ServedJob.{ServedJob}
+use Rattle.kira_app.specs.Words.{asks, is_served, job_file, overrides_of, AreAnswered, AsksHelp, IsServedJob}
 use Rattle.kira_app.specs.Sources.{Sources, TreesOf, OutlineOf, ReadsSources}
-use Rattle.kira_app.specs.Plans.{status_of, refusal_of, PlanOfSources, served_words, PlanOf}
+use Rattle.kira_app.specs.Plans.{status_of, refusal_of, PlanOfSources, ServesAs, ServesWords, PlanOf}
 use Rattle.kira_app.specs.TopClauses.{HavePlan, AreRefusedAs, AreRefused, IsDivisor, IsDivisorIn, IsPrime, IsReductionFault, Around, HasCause, HasEnded, IsSaidByContents, IsMissedIn, IsAlike, IsAnsweredBy}
 use Rattle.kira_app.specs.Laws.{AreAlike, NamesDivisorIn, JobsAgree, JobsNameDivisors, JobsHaveOneModulus}
-use Rattle.kira_app.proofs.Told.{weaker, then_is, next_answers, missing_said}
+use Rattle.kira_app.proofs.Told.{weaker, always, then_is, then_refused, refused_first, next_answers, missing_said}
 use Rattle.kira_app.proofs.Agreement.{parted, trees_read, single_trees, single_outline}
 
 -- ---- a plan, taken apart
@@ -103,20 +106,32 @@ no_divisor p divisor prime d = by (prime.only divisor d.divides)
 
 -- ---- the plan of the words and the files
 
-served_by : (b : Bool) → true ≡ b → ◌≡◌ {A = Answer (Unit {0})} (cond b (Ok tt) (Err (plain status.NotYet))) (Ok tt)
-served_by true e = refl
-served_by false e = absurd (true≢false e)
+served_by : (asked : Asked) (served : Bool) → asked ≡ line.call → served ≡ true → ServesAs asked served (Ok tt)
+served_by asked served is fits = subst (λ (a : Asked). ServesAs a served (Ok tt)) (sym is) (subst (λ (b : Bool). ServesAs line.call b (Ok tt)) (sym fits) refl)
 
 pub plan_told : (held : Option Held) (before now : ℕ) (words : List Bytes) (given used : List Override) (name : Bytes) (sources : Sources) (r : Answer Plan) →
-    true ≡ are_served words → given ≡ overrides_of words → used ≡ overrides_of words → name ≡ job_file words → now ≡ before →
+    asks words ≡ line.call → is_served words ≡ true → given ≡ overrides_of words → used ≡ overrides_of words → name ≡ job_file words → now ≡ before →
     IfTold held (λ files. ReadsSources given name files (Ok sources)) → Answers (PlanOfSources used sources) r → Tells held before now (PlanOf words) r
-plan_told held before now words given used name sources r served is_given is_used is_name count read h =
+plan_told held before now words given used name sources r called served is_given is_used is_name count read h =
     let overrides = overrides_of words in
     next_answers held before now (λ files. ReadsSources given name files (Ok sources)) (PlanOfSources overrides sources) (PlanOf words) r count
-    (λ files o found after. then_is (Is (served_words words)) (λ _. Then (ReadsSources overrides (job_file words) files) (PlanOfSources overrides)) tt o (served_by (are_served words) served)
+    (λ files o found after. then_is (ServesWords words) (λ _. Then (ReadsSources overrides (job_file words) files) (PlanOfSources overrides)) tt o (served_by (asks words) (is_served words) called served)
     (then_is (ReadsSources overrides (job_file words) files) (PlanOfSources overrides) sources o
     (subst (λ (n : Bytes). ReadsSources overrides n files (Ok sources)) is_name (subst (λ (g : List Override). ReadsSources g name files (Ok sources)) is_given found)) after))
     read (subst (λ (u : List Override). Answers (PlanOfSources u sources) r) is_used h)
+
+-- the sources are refused
+pub sources_refused : (held : Option Held) (before now : ℕ) (words : List Bytes) (given : List Override) (name : Bytes) (e : Refusal) →
+    asks words ≡ line.call → is_served words ≡ true → given ≡ overrides_of words → name ≡ job_file words →
+    RefusesTold held before now (λ files. ReadsSources given name files) e → RefusesTold held before now (PlanOf words) e
+sources_refused held before now words given name e called served is_given is_name h =
+    let overrides = overrides_of words in
+    refused_first held before now (λ files. ReadsSources given name files) (PlanOf words)
+    (λ files x found.
+    then_is (ServesWords words) (λ _. Then (ReadsSources overrides (job_file words) files) (PlanOfSources overrides)) tt (Err x) (served_by (asks words) (is_served words) called served)
+    (then_refused (ReadsSources overrides (job_file words) files) (PlanOfSources overrides) x
+    (subst (λ (n : Bytes). ReadsSources overrides n files (Err x)) is_name (subst (λ (g : List Override). ReadsSources g name files (Err x)) is_given found))))
+    e h
 
 -- ---- a file that is said to be missing
 
@@ -161,7 +176,8 @@ plan_caused law a (status.Input f) name h = (unfine (status.Input f) refl, h)
 plan_caused law a (status.Singular c) name h = (unfine (status.Singular c) refl, h)
 plan_caused law a (status.RulesClash m r) name h = (unfine (status.RulesClash m r) refl, h)
 plan_caused law a (status.TooMany what count) name h = (unfine (status.TooMany what count) refl, h)
-plan_caused law a status.NotYet name h = (unfine status.NotYet refl, h)
+plan_caused law a status.Usage name h = absurd h
+plan_caused law a status.NotYet name h = absurd h
 plan_caused law a (status.Composite f) name h =
     (unfine (status.Composite f) refl, weaker a.held _ _ (λ files is. law a.words files (record { status = status.Composite f; name = name }) f is refl) h)
 
@@ -170,6 +186,7 @@ pub reduction_caused : (a : Around) (plan : Plan) (s : Status) → IfTold a.held
 reduction_caused a plan (status.Composite f) told h = (unfine (status.Composite f) refl, weaker a.held _ _ (λ files is. divisor_of_plan a.words files plan f.divisor is h) told)
 reduction_caused a plan status.OutOfMemory told h = (unfine status.OutOfMemory refl, tt)
 reduction_caused a plan status.Ok told h = absurd h
+reduction_caused a plan status.Usage told h = absurd h
 reduction_caused a plan status.NotYet told h = absurd h
 reduction_caused a plan (status.Input f) told h = absurd h
 reduction_caused a plan (status.Singular c) told h = absurd h
@@ -177,6 +194,36 @@ reduction_caused a plan (status.RulesClash m r) told h = absurd h
 reduction_caused a plan (status.TooMany what count) told h = absurd h
 reduction_caused a plan status.ReadFault told h = absurd h
 reduction_caused a plan status.WriteFault told h = absurd h
+
+-- ---- words that no job is read for
+
+unserved : (asked : Asked) (served : Bool) → asked ≡ line.call → served ≡ false → ServesAs asked served (Err (plain status.NotYet))
+unserved asked served is none = subst (λ (a : Asked). ServesAs a served (Err (plain status.NotYet))) (sym is) (subst (λ (b : Bool). ServesAs line.call b (Err (plain status.NotYet))) (sym none) refl)
+
+refused_words : (words : List Bytes) (held : Held) (e : Refusal) → ServesWords words (Err e) → PlanOf words held (Err e)
+refused_words words held e is = then_refused (ServesWords words) (λ _. Then (ReadsSources (overrides_of words) (job_file words) held) (PlanOfSources (overrides_of words))) e is
+
+pub answered_caused : (a : Around) (s : Status) → AreAnswered a.words s → IsCaused a s []
+answered_caused a status.Usage h =
+    (unfine status.Usage refl, (h, always a.held _ (λ files. refused_words a.words files (plain status.Usage) (subst (λ (q : Asked). ServesAs q (is_served a.words) (Err (plain status.Usage))) (sym h) refl))))
+answered_caused a status.NotYet h =
+    (unfine status.NotYet refl, (h, always a.held _ (λ files. refused_words a.words files (plain status.NotYet) (unserved (asks a.words) (is_served a.words) h.0 h.1))))
+answered_caused a status.OutOfMemory h = (unfine status.OutOfMemory refl, tt)
+answered_caused a status.Ok h = absurd h
+answered_caused a (status.Input f) h = absurd h
+answered_caused a (status.Singular c) h = absurd h
+answered_caused a (status.RulesClash m r) h = absurd h
+answered_caused a (status.Composite f) h = absurd h
+answered_caused a (status.TooMany what count) h = absurd h
+answered_caused a status.ReadFault h = absurd h
+answered_caused a status.WriteFault h = absurd h
+
+-- words that ask for the usage line have neither a plan nor a refusal
+pub help_has_no_plan : (words : List Bytes) (held : Held) (r : Answer Plan) → AsksHelp words → PlanOf words held r → ⊥
+help_has_no_plan words held r help h = nothing h.answer (subst (λ (q : Asked). ServesAs q (is_served words) h.answer) help h.is)
+  where
+    nothing : (o : Answer (Unit {0})) → ServesAs line.help (is_served words) o → ⊥
+    nothing o none = none
 
 pub plainly_caused : (a : Around) (s : Status) (r : Refusal) → r ≡ plain s → IsCaused a s [] → IsCaused a r.status r.name
 plainly_caused a s r is h = subst (λ (x : Refusal). IsCaused a x.status x.name) (sym is) h
@@ -235,7 +282,8 @@ module _ (agree : JobsAgree) (one : JobsHaveOneModulus) (a : Around) (files : He
     refusal_answered (status.Singular c) name h = also_refused (status.Singular c) name h
     refusal_answered (status.RulesClash m r) name h = also_refused (status.RulesClash m r) name h
     refusal_answered (status.TooMany what count) name h = also_refused (status.TooMany what count) name h
-    refusal_answered status.NotYet name h = also_refused status.NotYet name h
+    refusal_answered status.Usage name h = also_refused status.Usage name h.1
+    refusal_answered status.NotYet name h = also_refused status.NotYet name h.1
 
   module _ (plan : Plan) (is : PlanOf a.words files (Ok plan)) (prime : IsPrime plan.modulus) (quiet : ¬ (Rose a.faults a.faults_after)) (calm : ¬ (Rose a.out_faults a.out_faults_after)) where
     none_divides : Divisible → ⊥
@@ -257,4 +305,5 @@ module _ (agree : JobsAgree) (one : JobsHaveOneModulus) (a : Around) (files : He
     complete (status.Singular c) name h = absurd (none_refused (status.Singular c) name h)
     complete (status.RulesClash m r) name h = absurd (none_refused (status.RulesClash m r) name h)
     complete (status.TooMany what count) name h = absurd (none_refused (status.TooMany what count) name h)
-    complete status.NotYet name h = absurd (none_refused status.NotYet name h)
+    complete status.Usage name h = absurd (none_refused status.Usage name h.1)
+    complete status.NotYet name h = absurd (none_refused status.NotYet name h.1)

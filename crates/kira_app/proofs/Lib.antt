@@ -5,3 +5,4 @@ pub mod TextOfTable
 pub mod Messages
 pub mod Agreement
 pub mod Causes
+pub mod AskedWords

@@ -26,7 +26,7 @@ text_of_table law plan equations table bytes are p order is_p is_order reduced o
     record {
       exists = (table.rows, record { equations = equations; are = are; reduced = here table.rows reduced });
       every = λ other h.
-          let equal : h.equations ≡ equations = law plan.bases plan.zeros plan.dimension plan.order plan.seeds h.equations equations h.are are in
+          let equal : h.equations ≡ equations = law plan.bases plan.symmetries plan.zeros plan.dimension plan.order plan.seeds h.equations equations h.are are in
           let rows : other ≡ table.rows = only other (there other (subst (λ (rows : List Row). IsReduced plan.modulus plan.order rows other) equal h.reduced)) in
           let same : table ≡ record { modulus = plan.modulus; order = plan.order; rows = other } =
           λ i. record { modulus = (modulus ∙ is_p) i; order = (ordered ∙ is_order) i; rows = sym rows i } in

@@ -32,7 +32,8 @@ by_status (status.Singular c) failed failed' refused refused' go on h = on h
 by_status (status.RulesClash m r) failed failed' refused refused' go on h = on h
 by_status (status.Composite f) failed failed' refused refused' go on h = on h
 by_status (status.TooMany what count) failed failed' refused refused' go on h = on h
-by_status status.NotYet failed failed' refused refused' go on h = on h
+by_status status.Usage failed failed' refused refused' go on h = h
+by_status status.NotYet failed failed' refused refused' go on h = h
 
 -- ---- one step and what follows it
 
@@ -119,6 +120,7 @@ missing_said (status.Singular c) failed refused missing h = absurd missing
 missing_said (status.RulesClash m r) failed refused missing h = absurd missing
 missing_said (status.Composite f) failed refused missing h = absurd missing
 missing_said (status.TooMany what count) failed refused missing h = absurd missing
+missing_said status.Usage failed refused missing h = absurd missing
 missing_said status.NotYet failed refused missing h = absurd missing
 
 -- what holds of the error that `?` hands on

@@ -16,11 +16,12 @@ use Rattle.job_point.specs.declared.faults.Excess.TheVariants.{Seeds, Selected, 
 use Rattle.job_point.specs.declared.faults.Singular as point
 use Rattle.job_point.specs.declared.faults.Singular.TheVariants.{ZeroDivisor, RulesOpen, NotBasis}
 use Rattle.kira_app.specs.declared.status.Status.{Status}
-use Rattle.kira_app.specs.declared.status.Status.TheVariants.{Ok, NotYet, Input, Singular, RulesClash, Composite, TooMany, ReadFault, WriteFault, OutOfMemory}
+use Rattle.kira_app.specs.declared.status.Status.TheVariants.{Ok, Usage, NotYet, Input, Singular, RulesClash, Composite, TooMany, ReadFault, WriteFault, OutOfMemory}
 use Rattle.kira_app.specs.declared.refusal.Refusal.{Refusal}
 
 abbrev pub exit_code_of : Status → ℕ
 exit_code_of Ok = 0
+exit_code_of Usage = 2
 exit_code_of (Input fault) = 3
 exit_code_of (Singular cause) = 4
 exit_code_of (RulesClash multipliers residue) = 4
@@ -67,10 +68,15 @@ excess_text Seeds = codes "more than 131072 seeds"
 excess_text Selected = codes "more than 131072 selected integrals"
 excess_text Terms = codes "more than 16777216 terms"
 
+-- how the program is called
+abbrev pub usage_text : Bytes
+usage_text = codes "usage: kira [-p N] [--save=FILE] [--save-limit=N] [--units=N] JOBFILE [NAME=VALUE]... or kira [-p N] --sample=N"
+
 -- what a message says of a status, where the job file has the one name, and the list file at fault, or the
 -- family, the other
 abbrev pub pieces : Bytes → Bytes → Status → List Bytes
 pieces job name Ok = []
+pieces job name Usage = usage_text ∷ []
 pieces job name (Input fault) = fault_pieces (file_name job name fault.file) fault
 pieces job name (Singular cause) = singular_pieces job name cause
 pieces job name (RulesClash multipliers residue) = codes "the scalar product rules contradict each other" ∷ []
@@ -84,6 +90,10 @@ pieces job name NotYet = codes "not yet" ∷ []
 -- a line of the program that says this
 abbrev pub line_of : List Bytes → Bytes
 line_of pieces = concat (codes "kira: " ∷ (pieces ++ codes "\n" ∷ []))
+
+-- the line that the one word `--help` asks for
+abbrev pub usage_line : Bytes
+usage_line = line_of (usage_text ∷ [])
 
 -- The line that is written to the error stream, where the job file has this name.
 abbrev pub message_text : Bytes → Refusal → Bytes

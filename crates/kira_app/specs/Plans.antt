@@ -1,5 +1,5 @@
 -- The plan of a job, or its first refusal, as the words and the files give it. The project's own.
-use Rattle.std.specs.Prelude.{◌≡◌, ℕ, if◌then◌else◌, List, [], Ok, Err, map, slice_index_or}
+use Rattle.std.specs.Prelude.{◌≡◌, ℕ, Bool, if◌then◌else◌, List, [], Ok, Err, map, slice_index_or}
 use Rattle.yaml_text.specs.Lines.{Bytes}
 use Rattle.input_schema.specs.declared.faults.File.{File}
 use Rattle.input_schema.specs.declared.faults.File.TheVariants as file
@@ -15,7 +15,9 @@ use Rattle.kira_app.specs.declared.status.Status.{Status}
 use Rattle.kira_app.specs.declared.status.Status.TheVariants as status
 use Rattle.kira_app.specs.declared.refusal.Refusal.{Refusal}
 use Rattle.kira_app.specs.Steps.{Answer, Step, Is, Then, plain, OfPlan}
-use Rattle.kira_app.specs.Words.{are_served, job_file, overrides_of}
+use Rattle.command_line.specs.Request.{Asked}
+use Rattle.command_line.specs.Request as line
+use Rattle.kira_app.specs.Words.{asks, is_served, job_file, overrides_of}
 use Rattle.kira_app.specs.Sources.{Sources, OutlineOf, ReadsSources}
 
 -- ---- the refusals of a plan
@@ -57,12 +59,17 @@ abbrev pub PlanOfSources : List Override → Sources → Step Plan
 PlanOfSources overrides sources =
     Then (OutlineOf overrides sources.trees) (λ outline. OfPlan (refusal_of outline) (IsPlan outline sources.lists))
 
--- words of another form aren't served
-abbrev pub served_words : List Bytes → Answer (Unit {0})
-served_words words = if are_served words then Ok tt else Err (plain status.NotYet)
+-- Words that ask for the usage line have neither a plan nor a refusal.
+abbrev pub ServesAs : Asked → Bool → Step (Unit {0})
+ServesAs line.usage served = Is (Err (plain status.Usage))
+ServesAs line.help served = λ r. ⊥
+ServesAs line.call served = Is (if served then Ok tt else Err (plain status.NotYet))
+
+abbrev pub ServesWords : List Bytes → Step (Unit {0})
+ServesWords words = ServesAs (asks words) (is_served words)
 
 -- The plan that the words and the files give, or the first refusal.
 abbrev pub PlanOf : List Bytes → Held → Step Plan
 PlanOf words held =
-    Then (Is (served_words words)) (λ _.
+    Then (ServesWords words) (λ _.
     Then (ReadsSources (overrides_of words) (job_file words) held) (PlanOfSources (overrides_of words)))

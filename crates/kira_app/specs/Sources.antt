@@ -18,12 +18,11 @@ use Rattle.job_schema.specs.declared.selections.ListFile.{ListFile}
 use Rattle.job_schema.specs.Overridden.{Override}
 use Rattle.job_plan.specs.Outlines.{Outline}
 use Rattle.job_plan.specs.Readings.{ReadsOutline}
-use Rattle.job_plan.specs.Outlines.{has_symmetry}
 use Rattle.kira_app.specs.declared.job_files.Trees.{Trees}
 use Rattle.kira_app.specs.contracts.job_files.Trees as trees_contracts
 use Rattle.kira_app.specs.declared.refusal.Refusal.{Refusal}
 use Rattle.kira_app.specs.declared.status.Status.TheVariants as status
-use Rattle.kira_app.specs.Steps.{Answer, Step, Is, Then, Each, plain, OfReading}
+use Rattle.kira_app.specs.Steps.{Answer, Step, Is, Then, Each, OfReading}
 
 -- ---- one file
 
@@ -101,10 +100,6 @@ pub record AreWhole (sources : Sources) : Type 0 where
   pub short : All (λ text. length text ≤ 2 ^ 24) sources.lists
   pub count : (overrides : List Override) (outline : Outline) → OutlineOf overrides sources.trees (Ok outline) → length sources.lists ≡ length outline.select.files
 
--- a job that names a symmetry isn't served yet
-abbrev pub served : Outline → Answer (Unit {0})
-served outline = if has_symmetry outline then Err (plain status.NotYet) else Ok tt
-
 -- the list files of an outline, beside the trees
 abbrev pub SourcesWith : Trees → Outline → Held → Step Sources
 SourcesWith trees outline held = Then (ListsOf outline.select.files held) (λ lists. Is (Ok (record { trees = trees; lists = lists })))
@@ -114,8 +109,7 @@ abbrev pub Outlines : List Override → Bytes → Held → Step (Trees × Outlin
 Outlines overrides name held =
     Then (TreesOf name held) (λ trees.
     Then (OutlineOf overrides trees) (λ outline.
-    Then (Is (served outline)) (λ _.
-    Is (Ok (trees, outline)))))
+    Is (Ok (trees, outline))))
 
 -- The files of the job with this name: its trees, and then its list files.
 abbrev pub ReadsSources : List Override → Bytes → Held → Step Sources

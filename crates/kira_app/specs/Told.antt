@@ -13,12 +13,14 @@ abbrev pub IfTold : Option Held → (Held → Type 0) → Type 0
 IfTold held P = MatchOption held ⊤ P
 
 -- What has to hold where a call is refused with a status: of memory nothing, of reading that it failed, and of
--- any other that it is the refusal of a step. Such a call doesn't end well, and writes nothing.
+-- any other that it is the refusal of a step. Such a call doesn't end well, and writes nothing. The words are read before.
 abbrev pub ByStatus : Status → Type 0 → Type 0 → Type 0
 ByStatus status.OutOfMemory failed refused = ⊤
 ByStatus status.ReadFault failed refused = failed
 ByStatus status.Ok failed refused = ⊥
 ByStatus status.WriteFault failed refused = ⊥
+ByStatus status.Usage failed refused = ⊥
+ByStatus status.NotYet failed refused = ⊥
 ByStatus other failed refused = refused
 
 -- ---- a step that reads no file

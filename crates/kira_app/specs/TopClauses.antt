@@ -21,9 +21,9 @@ use Rattle.kira_app.specs.declared.status.Status.{Status}
 use Rattle.kira_app.specs.declared.status.Status.TheVariants as status
 use Rattle.kira_app.specs.declared.refusal.Refusal.{Refusal}
 use Rattle.kira_app.specs.Steps.{plain}
-use Rattle.kira_app.specs.Message.{message_text, IsToldOf}
+use Rattle.kira_app.specs.Message.{message_text, usage_line, IsToldOf}
 use Rattle.kira_app.specs.Told.{IfTold, SaysMissing}
-use Rattle.kira_app.specs.Words.{are_served, job_file, overrides_of}
+use Rattle.kira_app.specs.Words.{AsksUsage, AsksUnserved, job_file, overrides_of}
 use Rattle.kira_app.specs.Sources.{TreesOf, OutlineOf}
 use Rattle.kira_app.specs.Plans.{status_of, PlanOf}
 
@@ -31,7 +31,7 @@ use Rattle.kira_app.specs.Plans.{status_of, PlanOf}
 
 -- the equations of the plan's seeds
 abbrev pub AreEquationsOf : Plan → List Row → Type 0
-AreEquationsOf plan equations = AreEquations plan.bases plan.zeros plan.dimension plan.order plan.seeds equations
+AreEquationsOf plan equations = AreEquations plan.bases plan.symmetries plan.zeros plan.dimension plan.order plan.seeds equations
 
 -- the table is the reduced list of the plan's equations
 pub record IsTableOf (plan : Plan) (table : List Row) : Type 0 where
@@ -129,12 +129,20 @@ HasCause a (status.Input fault) name = IsRefusal a (status.Input fault) name
 HasCause a (status.Singular cause) name = IsRefusal a (status.Singular cause) name
 HasCause a (status.RulesClash multipliers residue) name = IsRefusal a (status.RulesClash multipliers residue) name
 HasCause a (status.TooMany what count) name = IsRefusal a (status.TooMany what count) name
-HasCause a status.NotYet name = IsRefusal a status.NotYet name
+HasCause a status.Usage name = AsksUsage a.words × IsRefusal a status.Usage name
+HasCause a status.NotYet name = AsksUnserved a.words × IsRefusal a status.NotYet name
 
 -- how a call ends: with its text sent, or with a refusal
 abbrev pub HasEnded : Around → Result (Unit {0}) Refusal → Type 0
 HasEnded a (Ok _) = HasCause a status.Ok []
 HasEnded a (Err refusal) = (refusal.status ≢ status.Ok) × HasCause a refusal.status refusal.name
+
+-- The usage line was sent and flushed, or a prefix of it was where the count rose, or nothing.
+abbrev pub HasShown : Status → Option Stream → Option Stream → ℕ → ℕ → Type 0
+HasShown status.Ok before after faults faults_after = (after ≡ option_map (sent usage_line) before) × (faults_after ≡ faults)
+HasShown status.WriteFault before after faults faults_after = IsPrefixSent usage_line before after × Rose faults faults_after
+HasShown status.OutOfMemory before after faults faults_after = after ≡ before
+HasShown other before after faults faults_after = ⊥
 
 -- the message of such a status names a list file or a family
 abbrev pub Names : Status → Type 0

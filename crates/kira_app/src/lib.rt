@@ -23,6 +23,8 @@ pub use top::kira_alone;
 #[cfg(test)]
 mod refusals;
 #[cfg(test)]
+mod symmetry_tests;
+#[cfg(test)]
 mod test_jobs;
 #[cfg(test)]
 mod tests;

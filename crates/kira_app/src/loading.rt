@@ -4,7 +4,7 @@ ghost use Rattle.std.specs.Prelude.{◌≡◌, ◌⊎◌, ◌≤◌, ◌<◌, �
 ghost use Rattle.std.specs.Str.{IsAscii};
 ghost use Rattle.input_schema.specs.Readings as input;
 ghost use Rattle.kira_app.specs.Steps.{Is, OfReading, plain, plainly, texts_of, bytes_of};
-ghost use Rattle.kira_app.specs.Sources.{tree_in, list_of, TreeOf, KinematicsOf, FamiliesOf, TreesOf, ListsOf, OutlineOf, Outlines, served, SourcesWith, ReadsSources};
+ghost use Rattle.kira_app.specs.Sources.{tree_in, list_of, TreeOf, KinematicsOf, FamiliesOf, TreesOf, ListsOf, OutlineOf, Outlines, SourcesWith, ReadsSources};
 ghost use Rattle.kira_app.specs.TopClauses.{IsMissedIn};
 ghost use Rattle.kira_app.specs.Told.{Tells, Answers, IsMissed, IsPresent};
 
@@ -119,18 +119,6 @@ pub(crate) fn outline(
     }
 }
 
-// That a job is served: it names no symmetry.
-fn served(outline: &Outline) -> Result<(), Status>
-    ensures served { plainly result ≡ served outline.now }
-    ensures err { IfErr result (λ status. status ≡ Status.NotYet) }
-{
-    if outline.has_symmetry() {
-        Err(Status::NotYet)
-    } else {
-        Ok(())
-    }
-}
-
 /// A refusal with this name in its message; want of memory, where the name can't be copied.
 pub(crate) fn named(alloc: Global, status: Status, name: &str) -> Refusal
     requires ascii { IsAscii name.now }
@@ -214,7 +202,6 @@ fn outlined<F: Files>(
 {
     let trees = load_trees(alloc, files, jobfile)?;
     let outline = outline(alloc, &trees, overrides)?;
-    served(&outline)?;
     Ok((trees, outline))
 }
 

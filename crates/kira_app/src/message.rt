@@ -5,7 +5,7 @@ ghost use Rattle.std.specs.List.{concat};
 ghost use Rattle.kira_outside.specs.Faults.{Rose};
 ghost use Rattle.kira_outside.specs.Stream.{appended};
 ghost use Rattle.table_text.specs.Sending.{IsPrefixSent};
-ghost use Rattle.kira_app.specs.Message.{file_name, line_pieces, fault_pieces, zero_pieces, dependent_pieces, singular_pieces, divisor_pieces, excess_text, line_of, message_text, IsToldOf};
+ghost use Rattle.kira_app.specs.Message.{file_name, line_pieces, fault_pieces, zero_pieces, dependent_pieces, singular_pieces, divisor_pieces, excess_text, line_of, usage_line, message_text, IsToldOf};
 
 use crate::{Refusal, Status};
 use itoa::Buffer;
@@ -31,6 +31,7 @@ fn write_message<E: Sink>(refusal: &Refusal, job: &str, err: &mut E) -> Result<(
     let name = refusal.name.as_str();
     match &refusal.status {
         Status::Ok => write_pieces(&[b"kira: ", b"\n"], err),
+        Status::Usage => write_all(usage_line().as_bytes(), err),
         Status::NotYet => write_text("not yet", err),
         Status::Input(fault) => write_fault(fault, file_name(job, name, fault.file), err),
         Status::Singular(cause) => write_singular(cause, job, name, err),
@@ -43,6 +44,13 @@ fn write_message<E: Sink>(refusal: &Refusal, job: &str, err: &mut E) -> Result<(
         Status::WriteFault => write_text("writing failed", err),
         Status::OutOfMemory => write_text("out of memory", err),
     }
+}
+
+/// The line that says how the program is called.
+pub(crate) fn usage_line() -> &'static str
+    ensures { result.now ≡ usage_line }
+{
+    "kira: usage: kira [-p N] [--save=FILE] [--save-limit=N] [--units=N] JOBFILE [NAME=VALUE]... or kira [-p N] --sample=N\n"
 }
 
 // How a message names a file. `list` is the name of the list file at fault.

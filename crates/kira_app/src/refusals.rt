@@ -127,10 +127,12 @@ fn edited(
     Ok(made)
 }
 
+// Only the list file that it names is missing.
 #[test]
 fn the_job_with_every_key_is_accepted(rt: HostRuntime) -> Result<(), Fail> {
-    let ended = call(rt.alloc(), ACCEPTED, "jobs.yaml s=-1/2 d=4 prime=7")?;
-    assert!(rt; matches!(ended.status, Status::NotYet));
+    let alloc = rt.alloc();
+    let ended = call(alloc, ACCEPTED, "jobs.yaml s=-1/2 d=4 prime=7")?;
+    assert!(rt; refuses(alloc, &ended, "listed:", "0: no such file")?);
     Ok(())
 }
 
@@ -1187,7 +1189,7 @@ fn faults_that_two_places_make(rt: HostRuntime) -> Result<(), Fail> {
     let ended = call(alloc, texts, "jobs.yaml s=1")?;
     assert!(rt; refuses(alloc, &ended, "jobs.yaml:19: no value given", "")?);
     let ended = call(alloc, texts, "jobs.yaml d=1")?;
-    assert!(rt; matches!(ended.status, Status::NotYet));
+    assert!(rt; refuses(alloc, &ended, "listed:", "0: no such file")?);
 
     let text = edited(alloc, FAMILIES, 4, 1, "    top_level_sectors: [1]")?;
     let texts = Texts {

@@ -14,7 +14,9 @@ use reduction_core::ForwardFault;
 pub enum Status {
     /// The whole table was written and flushed.
     Ok,
-    /// The words or the job are of a form that isn't served yet.
+    /// The words aren't those of a call.
+    Usage,
+    /// The words or the job ask for what isn't served yet.
     NotYet,
     /// The first fault of the words and the files.
     Input(InputFault),
@@ -52,6 +54,7 @@ pub fn exit_code(status: &Status) -> u8
 {
     match status {
         Status::Ok => 0,
+        Status::Usage => 2,
         Status::Input(_) => 3,
         Status::Singular(_) => 4,
         Status::RulesClash { .. } => 4,

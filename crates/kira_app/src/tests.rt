@@ -69,7 +69,7 @@ pub(crate) fn plain_sink(alloc: Global) -> Result<MemorySink, Fail> {
     Ok(MemorySink::new(alloc, Vec::new(alloc), 65536, 65536)?)
 }
 
-fn call(alloc: Global, files: &Files, line: &str) -> Result<Ending, Fail> {
+pub(crate) fn call(alloc: Global, files: &Files, line: &str) -> Result<Ending, Fail> {
     let mut out = plain_sink(alloc)?;
     call_with(
         alloc,
@@ -80,14 +80,14 @@ fn call(alloc: Global, files: &Files, line: &str) -> Result<Ending, Fail> {
 }
 
 // Whether the call printed this table, and nothing else.
-fn prints(ended: &Ending, table: &str) -> bool {
+pub(crate) fn prints(ended: &Ending, table: &str) -> bool {
     matches!(ended.status, Status::Ok)
         && ended.out.as_slice() == table.as_bytes()
         && ended.err.is_empty()
 }
 
 // Whether the call was refused with this exit status and this line, and printed no table.
-fn refuses(ended: &Ending, code: u8, line: &str) -> bool {
+pub(crate) fn refuses(ended: &Ending, code: u8, line: &str) -> bool {
     exit_code(&ended.status) == code
         && ended.err.as_slice() == line.as_bytes()
         && ended.out.is_empty()
@@ -341,10 +341,71 @@ fn faults_of_list_files(rt: HostRuntime) -> Result<(), Fail> {
 
 #[test]
 fn other_words_are_not_served(rt: HostRuntime) -> Result<(), Fail> {
-    for line in ["", "-p 2 jobs.yaml", "jobs.yaml --save=s", "jobs.yaml -"] {
+    for line in ["--save=s jobs.yaml", "--sample=2"] {
         let ended = call(rt.alloc(), &TADPOLE, line)?;
         assert!(rt; refuses(&ended, 21, "kira: not yet\n"), "{line}");
     }
+    Ok(())
+}
+
+const USAGE: &str =
+    "kira: usage: kira [-p N] [--save=FILE] [--save-limit=N] [--units=N] JOBFILE [NAME=VALUE]... or kira [-p N] --sample=N\n";
+
+const NO_CALLS: &[&str] = &[
+    "",
+    "--units=1 jobs.yaml",
+    "-p 0 jobs.yaml",
+    "--sample=2 jobs.yaml",
+    "-p 2 -p 2 jobs.yaml",
+    "--help jobs.yaml",
+];
+
+#[test]
+fn words_of_no_call(rt: HostRuntime) -> Result<(), Fail> {
+    for line in NO_CALLS {
+        let ended = call(rt.alloc(), &TADPOLE, line)?;
+        assert!(rt; refuses(&ended, 2, USAGE), "{line}");
+    }
+    Ok(())
+}
+
+#[test]
+fn the_usage_line(rt: HostRuntime) -> Result<(), Fail> {
+    let ended = call(rt.alloc(), &TADPOLE, "--help")?;
+    assert!(rt; exit_code(&ended.status) == 0 && ended.err.is_empty());
+    assert!(rt; ended.out.as_slice() == USAGE.as_bytes());
+    Ok(())
+}
+
+const TADPOLE_IN_TWO: &str = "\
+tad[1] = 1*tad[1]
+tad[2] = 0
+tad[3] = 0
+masters 1
+tad[1]
+";
+
+const SAME_CALLS: &[&str] = &[
+    "-- jobs.yaml d=2",
+    "-p 2 jobs.yaml d=2",
+    "jobs.yaml --parallel=64 d=2",
+];
+
+// Options don't change a table, and two hyphens end them.
+#[test]
+fn options_beside_a_job(rt: HostRuntime) -> Result<(), Fail> {
+    for line in SAME_CALLS {
+        let ended = call(rt.alloc(), &TADPOLE, line)?;
+        assert!(rt; prints(&ended, TADPOLE_IN_TWO), "{line}");
+    }
+    Ok(())
+}
+
+// The place of an override counts the options.
+#[test]
+fn places_count_all_words(rt: HostRuntime) -> Result<(), Fail> {
+    let ended = call(rt.alloc(), &TADPOLE, "-p 2 jobs.yaml m3=1")?;
+    assert!(rt; refuses(&ended, 3, "kira: words:4: unknown name\n"));
     Ok(())
 }
 

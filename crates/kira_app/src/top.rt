@@ -1,59 +1,53 @@
 //! The call that the program makes.
 
-ghost use Rattle.std.specs.Prelude.{◌≡◌, ◌≢◌, ◌⊎◌, ◌≤◌, ◌<◌, [], codes, Some, None, Ok, Err, false, true, map, IfOk, OnOk, IfErr, ℕ, List};
-ghost use Rattle.std.specs.Result.{IsErrAnd};
+ghost use Rattle.std.specs.Prelude.{◌≡◌, ◌≢◌, ◌⊎◌, ◌≤◌, ◌<◌, [], codes, Some, None, Ok, Err, map, option_map, IfOk, OnOk, IfErr, ℕ, List};
 ghost use Rattle.std.specs.String.{string_bytes};
+ghost use Rattle.yaml_text.specs.Lines.{Bytes};
 ghost use Rattle.input_schema.specs.declared.faults.InputFault.{InputFault};
 ghost use Rattle.field_word.specs.declared.Composite.{Composite as CompositeValue};
 ghost use Rattle.job_point.specs.declared.faults.Singular.{Singular};
 ghost use Rattle.job_point.specs.declared.faults.Excess.{Excess};
 ghost use Rattle.kira_outside.specs.Faults.{Rose};
 ghost use Rattle.kira_outside.specs.Held.{Held};
+ghost use Rattle.table_text.specs.Sending.{sent, IsPrefixSent};
 ghost use Rattle.kira_app.specs.declared.status.Status.{Status as StatusValue};
-ghost use Rattle.kira_app.specs.Message.{message_text, IsToldOf};
+ghost use Rattle.kira_app.specs.Steps.{plain};
+ghost use Rattle.kira_app.specs.Message.{message_text, usage_line, IsToldOf};
 ghost use Rattle.kira_app.specs.Told.{IfTold, Tells};
-ghost use Rattle.kira_app.specs.Words.{are_served, job_file};
+ghost use Rattle.kira_app.specs.Words.{AsksCall, AsksHelp, AsksUsage, AsksJob, AsksUnserved, AreAnswered, IsServedJob};
 ghost use Rattle.kira_app.specs.Plans.{PlanOf};
-ghost use Rattle.kira_app.specs.TopClauses.{IsTextOf, IsSent, IsPartlySent, HavePlan, AreRefused, IsDivisorIn, IsPrime, IsMissedIn, HasCause, HasEnded, IsExplained, IsAnsweredBy};
+ghost use Rattle.kira_app.specs.TopClauses.{IsTextOf, IsSent, IsPartlySent, HavePlan, AreRefused, IsDivisorIn, IsPrime, IsMissedIn, HasCause, HasEnded, HasShown, IsExplained, IsAnsweredBy};
 
 use crate::laws::jobs_agree;
 use crate::loading::sources;
+use crate::message::usage_line;
 use crate::reduction::table_of;
-use crate::words::{are_served, job_file, overrides};
+use crate::words::{ServedJob, Wanted, read_words};
 use crate::{Refusal, Status, tell};
 use job_plan::Plan;
 use kira_outside::{Files, Sink};
 use std::alloc::Global;
 use table_text::send;
 
-// The plan that the words and the files give.
-fn plan_of<F: Files>(alloc: Global, words: &[String], files: &mut F) -> Result<Plan, Refusal>
-    ensures plan { Tells (F.held files.old) (F.faults files.old) (F.faults files.new) (PlanOf (map string_bytes words.now)) result }
+// The plan that the job of some words and the files give.
+fn plan_of<F: Files>(alloc: Global, job: &ServedJob, files: &mut F) -> Result<Plan, Refusal>
+    ensures plan { (words : List Bytes) → IsServedJob words job.now → Tells (F.held files.old) (F.faults files.old) (F.faults files.new) (PlanOf words) result }
     ensures missing { IfErr result (λ refusal. IsMissedIn (F.held files.old) (F.faults files.old) (F.faults files.new) refusal.status) }
-    ensures words_first { are_served (map string_bytes words.now) ≡ false → IsErrAnd result (λ refusal. refusal.status ≡ Status.NotYet) }
     ensures same { F.held files.new ≡ F.held files.old }
 {
-    if !are_served(words) {
-        return Err(Refusal::plain(alloc, Status::NotYet));
-    }
-    match overrides(alloc, words) {
-        Ok(overrides) => {
-            let sources = sources(alloc, job_file(words), &overrides, files)?;
-            sources.plan(&overrides)
-        }
-        Err(_) => Err(Refusal::plain(alloc, Status::OutOfMemory)),
-    }
+    let sources = sources(alloc, job.job_file, &job.overrides, files)?;
+    sources.plan(&job.overrides)
 }
 
-// The whole of the call but for its message.
+// The whole of the call for a job of some words, but for its message.
 fn ended<F: Files, O: Sink>(
     alloc: Global,
-    words: &[String],
+    job: &ServedJob,
     files: &mut F,
     out: &mut O,
 ) -> Result<(), Refusal>
-    ensures cause { HasEnded (record {
-      words = map string_bytes words.now;
+    ensures cause { (words : List Bytes) → IsServedJob words job.now → HasEnded (record {
+      words = words;
       held = F.held files.old;
       faults = F.faults files.old;
       faults_after = F.faults files.new;
@@ -63,12 +57,11 @@ fn ended<F: Files, O: Sink>(
       out_faults_after = O.faults out.new;
     }) result }
     ensures missing { IfErr result (λ refusal. IsMissedIn (F.held files.old) (F.faults files.old) (F.faults files.new) refusal.status) }
-    ensures words_first { are_served (map string_bytes words.now) ≡ false → IsErrAnd result (λ refusal. refusal.status ≡ Status.NotYet) }
     ensures silent { IfErr result (λ refusal. refusal.status ≢ Status.WriteFault → out.new ≡ out.old) }
     ensures same { F.held files.new ≡ F.held files.old }
 {
     jobs_agree();
-    let plan = plan_of(alloc, words, files)?;
+    let plan = plan_of(alloc, job, files)?;
     match table_of(alloc, &plan) {
         Ok(bytes) => match send(&bytes, out) {
             Ok(()) => Ok(()),
@@ -78,13 +71,37 @@ fn ended<F: Files, O: Sink>(
     }
 }
 
+// The refusal of words that no job is read for.
+fn refused<F: Files, O: Sink>(
+    alloc: Global,
+    words: &[String],
+    status: Status,
+    files: &F,
+    out: &O,
+) -> Refusal
+    requires { AreAnswered (map string_bytes words.now) status }
+    ensures cause { HasEnded (record {
+      words = map string_bytes words.now;
+      held = F.held files.now;
+      faults = F.faults files.now;
+      faults_after = F.faults files.now;
+      told = O.told out.now;
+      told_after = O.told out.now;
+      out_faults = O.faults out.now;
+      out_faults_after = O.faults out.now;
+    }) (Err result) }
+    ensures plain { result ≡ plain status }
+{
+    Refusal::plain(alloc, status)
+}
+
 /// Reduces the job that the words and the files ask for, and writes its table to `out`.
 ///
-/// The first word is the name of the job file, and each further one, NAME=VALUE, overrides a value of its
-/// numeric point. The files are the job file, `config/integralfamilies.yaml`,
-/// `config/kinematics.yaml` and the list files that the job names. At `Ok` the whole text of the one reduced
-/// list of the seeded equations was written and flushed. At every other answer its message is written to
-/// `err`; nothing is written to `out` before the whole text is made.
+/// The words are options and positionals: the name of the job file, and then words NAME=VALUE that override
+/// values of its numeric point. The one word `--help` asks for the usage line alone. The files are the job
+/// file, `config/integralfamilies.yaml`, `config/kinematics.yaml` and the list files that the job names. At
+/// `Ok` the whole text of the one reduced list of the seeded equations was written and flushed. At every other
+/// answer its message is written to `err`; nothing is written to `out` before the whole text is made.
 pub fn kira_alone<F: Files, O: Sink, E: Sink>(
     alloc: Global,
     words: &[String],
@@ -93,12 +110,16 @@ pub fn kira_alone<F: Files, O: Sink, E: Sink>(
     err: &mut E,
 ) -> Status
     // The table clause: the reduced list exists, and the text of every reduced list was sent.
-    ensures table { result ≡ Status.Ok → IfTold (F.held files.old) (HavePlan (map string_bytes words.now) (IsSent (O.told out.old) (O.told out.new))) }
+    ensures table { AsksCall (map string_bytes words.now) → result ≡ Status.Ok → IfTold (F.held files.old) (HavePlan (map string_bytes words.now) (IsSent (O.told out.old) (O.told out.new))) }
     ensures ok_counts { result ≡ Status.Ok → (F.faults files.new ≡ F.faults files.old) × (O.faults out.new ≡ O.faults out.old) }
     ensures ok_err { result ≡ Status.Ok → err.new ≡ err.old }
 
+    // For `--help` the usage line was sent, or a prefix of it where the count rose.
+    ensures help { AsksHelp (map string_bytes words.now) → HasShown result (O.told out.old) (O.told out.new) (O.faults out.old) (O.faults out.new) }
+
     // Each other answer comes by its cause.
-    ensures not_yet { result ≡ Status.NotYet → IfTold (F.held files.old) (AreRefused (map string_bytes words.now) Status.NotYet) }
+    ensures usage { result ≡ Status.Usage → AsksUsage (map string_bytes words.now) }
+    ensures not_yet { result ≡ Status.NotYet → AsksUnserved (map string_bytes words.now) }
     ensures input { (fault : InputFault) → result ≡ Status.Input fault → IfTold (F.held files.old) (AreRefused (map string_bytes words.now) (Status.Input fault)) }
     ensures missing { IsMissedIn (F.held files.old) (F.faults files.old) (F.faults files.new) result }
     ensures singular { (cause : Singular) → result ≡ Status.Singular cause → IfTold (F.held files.old) (AreRefused (map string_bytes words.now) (Status.Singular cause)) }
@@ -108,17 +129,19 @@ pub fn kira_alone<F: Files, O: Sink, E: Sink>(
         → IfTold (F.held files.old) (AreRefused (map string_bytes words.now) (Status.TooMany what count)) }
     ensures composite { (fault : CompositeValue) → result ≡ Status.Composite fault → IfTold (F.held files.old) (IsDivisorIn (map string_bytes words.now) fault.divisor) }
     ensures read_fault { result ≡ Status.ReadFault → Rose (F.faults files.old) (F.faults files.new) }
-    ensures write_fault { result ≡ Status.WriteFault → IfTold (F.held files.old) (HavePlan (map string_bytes words.now) (IsPartlySent (O.told out.old) (O.told out.new)))
-        × Rose (O.faults out.old) (O.faults out.new) }
+    ensures write_fault { AsksCall (map string_bytes words.now) → result ≡ Status.WriteFault → IfTold (F.held files.old) (HavePlan (map string_bytes words.now) (IsPartlySent (O.told out.old) (O.told out.new))) }
+    ensures out_failed { result ≡ Status.WriteFault → Rose (O.faults out.old) (O.faults out.new) }
 
     // And where the cause is there, the answer comes.
-    ensures words_first { are_served (map string_bytes words.now) ≡ false → result ≡ Status.NotYet }
+    ensures words_first { AsksUsage (map string_bytes words.now) → (result ≡ Status.Usage) ⊎ (result ≡ Status.OutOfMemory) }
+    ensures not_served { AsksUnserved (map string_bytes words.now) → (result ≡ Status.NotYet) ⊎ (result ≡ Status.OutOfMemory) }
     ensures first_refusal { (held : Held) (refusal : StatusValue) → F.held files.old ≡ Some held → AreRefused (map string_bytes words.now) refusal held
         → ¬ (Rose (F.faults files.old) (F.faults files.new)) → IsAnsweredBy (map string_bytes words.now) held refusal result }
 
     // Nothing is written before the whole text is made.
     ensures silent { result ≢ Status.Ok → result ≢ Status.WriteFault → out.new ≡ out.old }
     ensures message { result ≢ Status.Ok → IsExplained (map string_bytes words.now) (F.held files.old) result (E.told err.old) (E.told err.new) (E.faults err.old) (E.faults err.new) }
+    ensures unread { ¬ (AsksJob (map string_bytes words.now)) → files.new ≡ files.old }
     ensures same_files { F.held files.new ≡ F.held files.old }
 
     // Where the job has a plan, the modulus is prime and nothing outside fails, there is a table.
@@ -127,11 +150,25 @@ pub fn kira_alone<F: Files, O: Sink, E: Sink>(
         → (result ≡ Status.Ok) ⊎ (result ≡ Status.OutOfMemory) }
 {
     jobs_agree();
-    match ended(alloc, words, files, out) {
-        Ok(()) => Status::Ok,
-        Err(refusal) => {
-            tell(&refusal, job_file(words), err);
+    match read_words(alloc, words) {
+        Wanted::Help => match send(usage_line().as_bytes(), out) {
+            Ok(()) => Status::Ok,
+            Err(_) => {
+                tell(&Refusal::plain(alloc, Status::WriteFault), "", err);
+                Status::WriteFault
+            }
+        },
+        Wanted::Refused(status) => {
+            let refusal = refused(alloc, words, status, files, out);
+            tell(&refusal, "", err);
             refusal.status
         }
+        Wanted::Job(job) => match ended(alloc, &job, files, out) {
+            Ok(()) => Status::Ok,
+            Err(refusal) => {
+                tell(&refusal, job.job_file, err);
+                refusal.status
+            }
+        },
     }
 }

@@ -1,20 +1,31 @@
+-- Each answer has its cause; where the files tell a first refusal, or a plan of a prime, it is the answer.
+use Rattle.std.proofs.Common.{[], map}
+use Rattle.std.specs.String.{string_bytes}
 use Rattle.kira_app.specs.declared.refusal.Refusal.{Refusal}
-use Rattle.kira_app.proofs.Causes.{refusal_answered, complete}
 use Rattle.kira_app.specs.declared.status.Status.TheVariants as status
-use Rattle.std.proofs.Common.{[]}
+use Rattle.kira_app.proofs.Causes.{refusal_answered, complete}
 use Rattle.kira_app.proofs.top.kira_alone.Goals as goal
 
-pub returns-in-Ok-clause-first_refusal : goal.returns-in-Ok-clause-first_refusal
-returns-in-Ok-clause-first_refusal g c =
+pub returns-in-Refused-clause-complete : goal.returns-in-Refused-clause-complete
+returns-in-Refused-clause-complete g c =
     let law = c.jobs_agree.ensures in
-    λ held refusal told refused quiet. refusal_answered law.agree law.modulus _ held told (record { status = refusal; name = refused.0 }) refused.1 quiet status.Ok [] c.in-Ok.ensures.cause
+    let refusal = c.refused-refusal.result in
+    λ held told planned quiet calm. complete law.agree law.modulus _ held told planned.plan planned.is planned.holds quiet calm refusal.status refusal.name c.refused-refusal.ensures.cause.1
 
-pub returns-in-Err-clause-first_refusal : goal.returns-in-Err-clause-first_refusal
-returns-in-Err-clause-first_refusal g c =
+pub returns-in-Ok-ended-clause-first_refusal : goal.returns-in-Ok-ended-clause-first_refusal
+returns-in-Ok-ended-clause-first_refusal g c =
     let law = c.jobs_agree.ensures in
-    λ held refusal told refused quiet. refusal_answered law.agree law.modulus _ held told (record { status = refusal; name = refused.0 }) refused.1 quiet c.in-Err.refusal.status c.in-Err.refusal.name c.in-Err.ensures.cause.1
+    let cause = c.in-Ok-ended.ensures.cause (map string_bytes c.args.words.now) c.in-Job.ensures in
+    λ held refusal told refused quiet. refusal_answered law.agree law.modulus _ held told (record { status = refusal; name = refused.0 }) refused.1 quiet status.Ok [] cause
 
-pub returns-in-Err-clause-complete : goal.returns-in-Err-clause-complete
-returns-in-Err-clause-complete g c =
+pub returns-clause-first_refusal : goal.returns-clause-first_refusal
+returns-clause-first_refusal g c =
     let law = c.jobs_agree.ensures in
-    λ held told planned quiet calm. complete law.agree law.modulus _ held told planned.plan planned.is planned.holds quiet calm c.in-Err.refusal.status c.in-Err.refusal.name c.in-Err.ensures.cause.1
+    let cause = c.in-Err-ended.ensures.cause (map string_bytes c.args.words.now) c.in-Job.ensures in
+    λ held refusal told refused quiet. refusal_answered law.agree law.modulus _ held told (record { status = refusal; name = refused.0 }) refused.1 quiet c.in-Err-ended.refusal.status c.in-Err-ended.refusal.name cause.1
+
+pub returns-clause-complete : goal.returns-clause-complete
+returns-clause-complete g c =
+    let law = c.jobs_agree.ensures in
+    let cause = c.in-Err-ended.ensures.cause (map string_bytes c.args.words.now) c.in-Job.ensures in
+    λ held told planned quiet calm. complete law.agree law.modulus _ held told planned.plan planned.is planned.holds quiet calm c.in-Err-ended.refusal.status c.in-Err-ended.refusal.name cause.1

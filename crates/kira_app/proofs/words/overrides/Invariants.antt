@@ -1,13 +1,12 @@
-use Rattle.std.proofs.Common.{◌≡◌, ◌+◌, ◌++◌, ◌<◌, ◌^◌, true, map, drop, length}
+use Rattle.std.proofs.Common.{◌≡◌, ◌++◌, true, map, drop}
 use Rattle.std.specs.List.{list_all}
-use Rattle.std.specs.String.{string_bytes}
-use Rattle.kira_app.specs.Words.{is_served_word, overrides_from, overrides_of}
+use Rattle.command_line.specs.Request.{is_short_word, seen_word}
+use Rattle.kira_app.specs.Words.{override_of}
 use Rattle.kira_app.proofs.words.overrides.Given as goal
 
-abbrev pub invariant-loop-i : goal.invariant-loop-i
-invariant-loop-i l =
+abbrev pub invariant-loop-word : goal.invariant-loop-word
+invariant-loop-word l =
     record {
-      few : length l.words < 2 ^ 31;
-      rest : list_all is_served_word (map string_bytes (drop l.i l.words)) ≡ true;
-      whole : overrides_of (map string_bytes l.words) ≡ l.found.items ++ overrides_from (l.i + 1) (map string_bytes (drop l.i l.words));
+      rest : list_all is_short_word (drop l.word-index l.words) ≡ true;
+      whole : map override_of (map seen_word l.words) ≡ l.found.items ++ map override_of (map seen_word (drop l.word-index l.words));
     }

@@ -1,0 +1,4 @@
+pub mod Command
+pub mod Places
+pub mod Request
+pub mod Laws

@@ -1,0 +1,6 @@
+-- The words themselves are the cause.
+use Rattle.kira_app.proofs.Causes.{plainly_caused, answered_caused}
+use Rattle.kira_app.proofs.top.refused.Goals as goal
+
+pub returns-clause-cause : goal.returns-clause-cause
+returns-clause-cause g c = plainly_caused _ c.args.status _ c.plain.ensures (answered_caused _ c.args.status c.requires)
