@@ -2,6 +2,7 @@ pub mod Told
 pub mod Loaded
 pub mod ListLoading
 pub mod TextOfTable
+pub mod Runs
 pub mod Messages
 pub mod Agreement
 pub mod Causes

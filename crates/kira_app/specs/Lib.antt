@@ -5,5 +5,6 @@ pub mod Sources
 pub mod KeptSources
 pub mod Plans
 pub mod Message
+pub mod Run
 pub mod TopClauses
 pub mod Laws

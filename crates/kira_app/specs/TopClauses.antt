@@ -1,9 +1,12 @@
 -- What the call of the program promises.
-use Rattle.std.specs.Prelude.{◌≡◌, ◌≢◌, ◌⊎◌, ◌≤◌, ◌<◌, ⊤, ℕ, List, [], Result, Option, None, Some, option_map, Ok, Err}
+use Rattle.std.specs.Prelude.{◌≡◌, ◌≢◌, ◌⊎◌, ◌≤◌, ◌<◌, ⊤, ℕ, List, [], length, ◌+◌, Result, Option, None, Some, option_map, Ok, Err}
 use Rattle.std.specs.Int.{◌∣◌}
 use Rattle.yaml_text.specs.Lines.{Bytes}
+use Rattle.integral_index.specs.declared.Unit.{Unit}
 use Rattle.sparse_row.specs.Row.{Row}
 use Rattle.sparse_row.specs.ReducedList.{IsReduced}
+use Rattle.sector_machine.specs.Machine.{AreUnitsOf}
+use Rattle.reduction_core.specs.Table.{Table}
 use Rattle.kira_outside.specs.Faults.{Rose}
 use Rattle.kira_outside.specs.Held.{Held}
 use Rattle.kira_outside.specs.Stream.{Stream}
@@ -39,6 +42,13 @@ pub record IsTableOf (plan : Plan) (table : List Row) : Type 0 where
   pub are : AreEquationsOf plan equations
   pub reduced : IsReduced plan.modulus plan.order equations table
 
+-- the table is the one reduced list of the plan's equations
+pub record IsSolved (plan : Plan) (table : Table) : Type 0 where
+  pub modulus : table.modulus ≡ plan.modulus
+  pub order : table.order ≡ plan.order
+  pub is : IsTableOf plan table.rows
+  pub only : (other : List Row) → IsTableOf plan other → other ≡ table.rows
+
 -- the text of the table for the selection, with the names and the zero sectors of the families
 abbrev pub text_of : Plan → List Row → List ℕ
 text_of plan table =
@@ -56,6 +66,16 @@ IsSent before after plan = (bytes : List ℕ) × IsTextOf plan bytes × (after �
 -- the sink was sent a prefix of the text
 abbrev pub IsPartlySent : Option Stream → Option Stream → Plan → Type 0
 IsPartlySent before after plan = (bytes : List ℕ) × IsTextOf plan bytes × IsPrefixSent bytes before after
+
+-- ---- the steps
+
+-- one step was taken for each unit of the integrals that the plan's equations show
+pub record TakesUnits (before after : ℕ) (plan : Plan) : Type 0 where
+  pub equations : List Row
+  pub are : AreEquationsOf plan equations
+  pub units : List Unit
+  pub units_are : AreUnitsOf equations units
+  pub taken : after ≡ before + length units
 
 -- ---- the job
 
@@ -102,8 +122,8 @@ IsReductionFault p other = ⊥
 
 -- ---- the answers
 
--- What stands around a call: the words, what the files tell, and the counts of faults and what the sink tells
--- before the call and behind it.
+-- What stands around a call: the words, what the files tell, and the counts of faults, what the sink tells and
+-- the steps before the call and behind it.
 pub record Around : Type 0 where
   pub words : List Bytes
   pub held : Option Held
@@ -113,15 +133,25 @@ pub record Around : Type 0 where
   pub told_after : Option Stream
   pub out_faults : ℕ
   pub out_faults_after : ℕ
+  pub steps : ℕ
+  pub steps_after : ℕ
 
 -- the words and the files are told, and have this first refusal
 abbrev pub IsRefusal : Around → Status → Bytes → Type 0
 IsRefusal a s name = IfTold a.held (AreRefusedAs a.words s name)
 
+-- the sink was sent the whole text, and each unit took a step
+abbrev pub IsSentStepwise : Around → Plan → Type 0
+IsSentStepwise a plan = IsSent a.told a.told_after plan × TakesUnits a.steps a.steps_after plan
+
+-- the sink was sent a prefix of the text, and each unit took a step
+abbrev pub IsPartlySentStepwise : Around → Plan → Type 0
+IsPartlySentStepwise a plan = IsPartlySent a.told a.told_after plan × TakesUnits a.steps a.steps_after plan
+
 -- each answer comes by its cause. A message that names a list file or a family has the name.
 abbrev pub HasCause : Around → Status → Bytes → Type 0
-HasCause a status.Ok name = IfTold a.held (HavePlan a.words (IsSent a.told a.told_after)) × (a.faults_after ≡ a.faults) × (a.out_faults_after ≡ a.out_faults)
-HasCause a status.WriteFault name = IfTold a.held (HavePlan a.words (IsPartlySent a.told a.told_after)) × Rose a.out_faults a.out_faults_after
+HasCause a status.Ok name = IfTold a.held (HavePlan a.words (IsSentStepwise a)) × (a.faults_after ≡ a.faults) × (a.out_faults_after ≡ a.out_faults)
+HasCause a status.WriteFault name = IfTold a.held (HavePlan a.words (IsPartlySentStepwise a)) × Rose a.out_faults a.out_faults_after
 HasCause a (status.Composite fault) name = IfTold a.held (IsDivisorIn a.words fault.divisor)
 HasCause a status.ReadFault name = Rose a.faults a.faults_after
 HasCause a status.OutOfMemory name = ⊤

@@ -8,6 +8,7 @@ mod message;
 mod planning;
 mod reduction;
 mod refusal;
+mod run;
 mod status;
 mod top;
 mod words;
@@ -17,9 +18,12 @@ pub use laws::jobs_agree;
 pub use loading::sources;
 pub use message::tell;
 pub use refusal::Refusal;
+pub use run::run_alone;
 pub use status::{Status, exit_code};
 pub use top::kira_alone;
 
+#[cfg(test)]
+mod plain_tests;
 #[cfg(test)]
 mod refusals;
 #[cfg(test)]

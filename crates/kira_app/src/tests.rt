@@ -1,13 +1,18 @@
 //! Tables and refusals of small jobs, and failing calls, over files and sinks in memory. The coefficients were
 //! worked out by hand from the equations, and their residues by Python.
 
+ghost use Rattle.std.specs.Prelude.{◌≡◌, ◌<◌};
+
 use super::*;
 use crate::test_jobs::{
     BOX, BUBBLE, Files, LISTED_TRIANGLE, TADPOLE, TRIANGLE, TWO_TADPOLES, VACUUM,
 };
 use kira_outside::{Entry, MemoryFiles, MemorySink, Text8};
 use std::alloc::Global;
+use std::marker::Brand;
+use std::sync::ledger::{Blank, Ledger};
 use std::test::Fail;
+use step_counter::Steps;
 
 const TADPOLE_TABLE: &str = "\
 tad[1] = 1*tad[1]
@@ -25,7 +30,7 @@ pub(crate) fn entry(alloc: Global, name: &str, bytes: &[u8]) -> Result<Entry, Fa
 }
 
 // These files in memory, where the loads with these numbers fail.
-fn held(alloc: Global, files: &Files, failing: Vec<u64>) -> Result<MemoryFiles, Fail> {
+pub(crate) fn held(alloc: Global, files: &Files, failing: Vec<u64>) -> Result<MemoryFiles, Fail> {
     let mut entries = Vec::new(alloc);
     entries.push(entry(alloc, "jobs.yaml", files.jobs.as_bytes())?)?;
     let families = files.families.as_bytes();
@@ -45,6 +50,23 @@ pub(crate) struct Ending {
     pub err: Vec<u8>,
 }
 
+// The call, with a counter of its own for the steps.
+fn counted<L: Ledger>(
+    alloc: Global,
+    words: &[String],
+    files: &mut MemoryFiles,
+    out: &mut MemorySink,
+    err: &mut MemorySink,
+    blank: Blank,
+) -> Status
+    requires name { blank.name ≡ L.name }
+    requires parts { blank.parts ≡ L.parts }
+    requires some { 0 < L.parts }
+{
+    let (book, share) = blank.open::<L>();
+    kira_alone(alloc, words, files, out, err, &mut Steps::new(book, share))
+}
+
 // A call with these words, separated by blanks, over these files and this sink.
 pub(crate) fn call_with(
     alloc: Global,
@@ -57,7 +79,7 @@ pub(crate) fn call_with(
         words.push(String::from_str(alloc, word)?)?;
     }
     let mut err = MemorySink::new(alloc, Vec::new(alloc), 7, 65536)?;
-    let status = kira_alone(alloc, &words, files, out, &mut err);
+    let status = counted::<Brand>(alloc, &words, files, out, &mut err, Blank::new(1));
     Ok(Ending {
         status,
         out: out.bytes().to_vec(alloc)?,

@@ -16,7 +16,7 @@ ghost use Rattle.kira_app.specs.Message.{message_text, usage_line, IsToldOf};
 ghost use Rattle.kira_app.specs.Told.{IfTold, Tells};
 ghost use Rattle.kira_app.specs.Words.{AsksCall, AsksHelp, AsksUsage, AsksJob, AsksUnserved, AreAnswered, IsServedJob};
 ghost use Rattle.kira_app.specs.Plans.{PlanOf};
-ghost use Rattle.kira_app.specs.TopClauses.{IsTextOf, IsSent, IsPartlySent, HavePlan, AreRefused, IsDivisorIn, IsPrime, IsMissedIn, HasCause, HasEnded, HasShown, IsExplained, IsAnsweredBy};
+ghost use Rattle.kira_app.specs.TopClauses.{IsTextOf, IsSent, IsPartlySent, TakesUnits, HavePlan, AreRefused, IsDivisorIn, IsPrime, IsMissedIn, HasCause, HasEnded, HasShown, IsExplained, IsAnsweredBy};
 
 use crate::laws::jobs_agree;
 use crate::loading::sources;
@@ -27,6 +27,8 @@ use crate::{Refusal, Status, tell};
 use job_plan::Plan;
 use kira_outside::{Files, Sink};
 use std::alloc::Global;
+use std::sync::ledger::Ledger;
+use step_counter::Steps;
 use table_text::send;
 
 // The plan that the job of some words and the files give.
@@ -40,11 +42,12 @@ fn plan_of<F: Files>(alloc: Global, job: &ServedJob, files: &mut F) -> Result<Pl
 }
 
 // The whole of the call for a job of some words, but for its message.
-fn ended<F: Files, O: Sink>(
+fn ended<F: Files, O: Sink, L: Ledger>(
     alloc: Global,
     job: &ServedJob,
     files: &mut F,
     out: &mut O,
+    steps: &mut Steps<L>,
 ) -> Result<(), Refusal>
     ensures cause { (words : List Bytes) → IsServedJob words job.now → HasEnded (record {
       words = words;
@@ -55,6 +58,8 @@ fn ended<F: Files, O: Sink>(
       told_after = O.told out.new;
       out_faults = O.faults out.old;
       out_faults_after = O.faults out.new;
+      steps = steps.old;
+      steps_after = steps.new;
     }) result }
     ensures missing { IfErr result (λ refusal. IsMissedIn (F.held files.old) (F.faults files.old) (F.faults files.new) refusal.status) }
     ensures silent { IfErr result (λ refusal. refusal.status ≢ Status.WriteFault → out.new ≡ out.old) }
@@ -62,7 +67,7 @@ fn ended<F: Files, O: Sink>(
 {
     jobs_agree();
     let plan = plan_of(alloc, job, files)?;
-    match table_of(alloc, &plan) {
+    match table_of(alloc, &plan, steps) {
         Ok(bytes) => match send(&bytes, out) {
             Ok(()) => Ok(()),
             Err(_) => Err(Refusal::plain(alloc, Status::WriteFault)),
@@ -72,12 +77,13 @@ fn ended<F: Files, O: Sink>(
 }
 
 // The refusal of words that no job is read for.
-fn refused<F: Files, O: Sink>(
+fn refused<F: Files, O: Sink, L: Ledger>(
     alloc: Global,
     words: &[String],
     status: Status,
     files: &F,
     out: &O,
+    steps: &Steps<L>,
 ) -> Refusal
     requires { AreAnswered (map string_bytes words.now) status }
     ensures cause { HasEnded (record {
@@ -89,6 +95,8 @@ fn refused<F: Files, O: Sink>(
       told_after = O.told out.now;
       out_faults = O.faults out.now;
       out_faults_after = O.faults out.now;
+      steps = steps.now;
+      steps_after = steps.now;
     }) (Err result) }
     ensures plain { result ≡ plain status }
 {
@@ -101,18 +109,25 @@ fn refused<F: Files, O: Sink>(
 /// values of its numeric point. The one word `--help` asks for the usage line alone. The files are the job
 /// file, `config/integralfamilies.yaml`, `config/kinematics.yaml` and the list files that the job names. At
 /// `Ok` the whole text of the one reduced list of the seeded equations was written and flushed. At every other
-/// answer its message is written to `err`; nothing is written to `out` before the whole text is made.
-pub fn kira_alone<F: Files, O: Sink, E: Sink>(
+/// answer its message is written to `err`; nothing is written to `out` before the whole text is made. The
+/// equations are reduced sector by sector, and the forward elimination of each takes one of the steps.
+pub fn kira_alone<F: Files, O: Sink, E: Sink, L: Ledger>(
     alloc: Global,
     words: &[String],
     files: &mut F,
     out: &mut O,
     err: &mut E,
+    steps: &mut Steps<L>,
 ) -> Status
     // The table clause: the reduced list exists, and the text of every reduced list was sent.
     ensures table { AsksCall (map string_bytes words.now) → result ≡ Status.Ok → IfTold (F.held files.old) (HavePlan (map string_bytes words.now) (IsSent (O.told out.old) (O.told out.new))) }
     ensures ok_counts { result ≡ Status.Ok → (F.faults files.new ≡ F.faults files.old) × (O.faults out.new ≡ O.faults out.old) }
     ensures ok_err { result ≡ Status.Ok → err.new ≡ err.old }
+
+    // Where a table was sent, or a prefix of it, each unit of its equations took one step.
+    ensures steps { AsksCall (map string_bytes words.now) → (result ≡ Status.Ok) ⊎ (result ≡ Status.WriteFault)
+        → IfTold (F.held files.old) (HavePlan (map string_bytes words.now) (TakesUnits steps.old steps.new)) }
+    ensures no_steps { ¬ (AsksJob (map string_bytes words.now)) → steps.new ≡ steps.old }
 
     // For `--help` the usage line was sent, or a prefix of it where the count rose.
     ensures help { AsksHelp (map string_bytes words.now) → HasShown result (O.told out.old) (O.told out.new) (O.faults out.old) (O.faults out.new) }
@@ -159,11 +174,11 @@ pub fn kira_alone<F: Files, O: Sink, E: Sink>(
             }
         },
         Wanted::Refused(status) => {
-            let refusal = refused(alloc, words, status, files, out);
+            let refusal = refused(alloc, words, status, files, out, steps);
             tell(&refusal, "", err);
             refusal.status
         }
-        Wanted::Job(job) => match ended(alloc, &job, files, out) {
+        Wanted::Job(job) => match ended(alloc, &job, files, out, steps) {
             Ok(()) => Status::Ok,
             Err(refusal) => {
                 tell(&refusal, job.job_file, err);

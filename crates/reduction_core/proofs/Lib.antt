@@ -11,6 +11,7 @@ pub mod ApplyLemmas
 pub mod AcceptingLemmas
 pub mod ReadyLemmas
 pub mod TurnLemmas
+pub mod ShownLemmas
 pub mod BoardLemmas
 pub mod OpeningLemmas
 pub mod AscendingLemmas

@@ -1,19 +1,21 @@
 -- The tasks of a board.
-use Rattle.std.proofs.Common.{◌≡◌, ◌≢◌, ◌↔◌, ℕ, ◌+◌, ◌<◌, Bool, true, false, IsTrue, cond, Option, None, Some, unwrap_or, List, [], ◌∷◌, ◌++◌, length, get_or, take, filter, flat_map, All, Contains, refl, sym, ap, subst, ◌∙◌, inl, inr, append-nil, append_assoc}
+use Rattle.std.proofs.Common.{◌≡◌, ◌↔◌, ℕ, ◌+◌, ◌<◌, Bool, true, false, IsTrue, cond, Option, None, Some, unwrap_or, List, [], ◌∷◌, ◌++◌, length, get_or, take, filter, flat_map, All, Contains, refl, sym, ap, subst, ◌∙◌, inl, inr, append-nil, append_assoc}
 use Rattle.std.proofs.lemmas.List.Elements.{All-contains, filter-append, filter_more}
 use Rattle.integral_index.specs.declared.Order.{Order}
 use Rattle.integral_index.specs.declared.Unit.{Unit}
 use Rattle.integral_index.specs.Integral.{Integral}
-use Rattle.sparse_row.specs.Row.{Row, coefficient, IsRow, IsEmpty, IsGreatest}
+use Rattle.integral_index.specs.Order.{unit_of}
+use Rattle.sparse_row.specs.Row.{Row, IsRow, IsEmpty, IsGreatest}
 use Rattle.sparse_row.proofs.RowValues.{greatest_same}
-use Rattle.sector_forward.specs.Elimination.{IsShownBySome}
+use Rattle.sector_forward.specs.Elimination.{IsShownBySome, IsRuleOf}
+use Rattle.back_substitute.specs.Substitution.{AreRules}
 use Rattle.std.specs.Option.{MatchOption}
 use Rattle.std.proofs.lemmas.Bool.{cases_eq}
 use Rattle.sector_machine.specs.State.{State, rows_at}
 use Rattle.sector_machine.specs.Machine.{IsDone, back_count}
 use Rattle.sector_machine.specs.Tasks.{shows_pivot_of}
 use Rattle.sector_machine.specs.Invariant.{HoldsOfRows}
-use Rattle.sector_machine.proofs.Lists.{Contains-none, All-from_members}
+use Rattle.sector_machine.proofs.Lists.{Contains-none, All-from_members, none_kept}
 use Rattle.sector_machine.proofs.Counts.{done_is_counted}
 use Rattle.sector_machine.proofs.Ready.{something_is_ready, done_is_the_end}
 use Rattle.sector_machine.proofs.Rows.{row_of_rules}
@@ -23,6 +25,7 @@ use Rattle.reduction_core.specs.Slots.{by_unit, back_of, state_of}
 use Rattle.reduction_core.specs.declared.task.Work.{Work}
 use Rattle.reduction_core.specs.declared.task.Work.TheVariants.{Forward, Back}
 use Rattle.reduction_core.specs.Task.{Task}
+use Rattle.reduction_core.specs.Opening.{ShowUnit}
 use Rattle.reduction_core.specs.Ready.{NoForward, NoBack, IsReady}
 use Rattle.reduction_core.proofs.SlotLemmas.{part_rows, get_listed, flat_more}
 
@@ -62,6 +65,12 @@ filter_flat_more test slots n slot made rules within read some is =
     sym (ap (filter test) (flat_more (part_rows back_of) slots n slot within read) ∙ filter-append test (flat_map (part_rows back_of) (take n slots)) (part_rows back_of slot)
     ∙ ap (λ rs. filter test (flat_map (part_rows back_of) (take n slots)) ++ filter test rs) (ap (λ o. unwrap_or o []) some) ∙ ap (λ rs. rs ++ filter test rules) (sym is))
 
+-- a slot without a rule whose pivot is shown
+pub filter_flat_left : (test : Row → Bool) (slots : List Slot) (n : ℕ) (slot : Slot) (made : List Row) → n < length slots → slot ≡ get_or slots n slot → filter test (part_rows back_of slot) ≡ [] → made ≡ filter test (flat_map (part_rows back_of) (take n slots)) → made ≡ filter test (flat_map (part_rows back_of) (take (n + 1) slots))
+filter_flat_left test slots n slot made within read none is =
+    sym (ap (filter test) (flat_more (part_rows back_of) slots n slot within read) ∙ filter-append test (flat_map (part_rows back_of) (take n slots)) (part_rows back_of slot)
+    ∙ ap (λ rs. filter test (flat_map (part_rows back_of) (take n slots)) ++ rs) none ∙ append-nil (filter test (flat_map (part_rows back_of) (take n slots))) ∙ sym is)
+
 pub filter_flat_none : (test : Row → Bool) (slots : List Slot) (n : ℕ) (slot : Slot) (made : List Row) → n < length slots → slot ≡ get_or slots n slot → back_of slot ≡ None → made ≡ filter test (flat_map (part_rows back_of) (take n slots)) → made ≡ filter test (flat_map (part_rows back_of) (take (n + 1) slots))
 filter_flat_none test slots n slot made within read none is =
     is ∙ sym (ap (filter test) (flat_more (part_rows back_of) slots n slot within read ∙ ap (λ rs. flat_map (part_rows back_of) (take n slots) ++ rs) (ap (λ o. unwrap_or o []) none) ∙ append-nil (flat_map (part_rows back_of) (take n slots))))
@@ -79,13 +88,19 @@ module _ (p : ℕ) (order : Order) (equations : List Row) (slots : List Slot) (p
       (All-from_members (IsRow p order) (rows_at (by_unit back_of slots) slot.unit)
       (λ row member. row_of_rules p order slot.unit (rows_at (by_unit back_of slots) slot.unit) row (holds.back.rules slot.unit) member))
 
--- ---- whether a row shows an integral
-
-pub some_shows : (rows : List Row) (n : ℕ) (row : Row) (x : Integral) → n < length rows → row ≡ get_or rows n row → coefficient row x ≢ 0 → IsShownBySome rows x
-some_shows rows n row x within read shows = (row, (n, within, sym read), shows)
-
-pub none_shows : (rows : List Row) (x : Integral) → All (λ row. coefficient row x ≡ 0) rows → ¬ (IsShownBySome rows x)
-none_shows rows x none (row, member, shows) = shows (All-contains (λ r. coefficient r x ≡ 0) rows row none member)
+  -- a unit that the rows don't show has no rule whose pivot they show
+  pub unshown_rules : (rows : List Row) → ¬ (ShowUnit rows slot.unit) → filter (shows_pivot_of order rows) (part_rows back_of slot) ≡ []
+  unshown_rules rows unshown =
+      let rules : AreRules p order slot.unit (part_rows back_of slot) = subst (AreRules p order slot.unit) (slot_rows back_of) (holds.back.rules slot.unit) in
+      none_kept (shows_pivot_of order rows) (part_rows back_of slot) (λ rule member.
+      let is : IsRuleOf p order slot.unit rule = All-contains (IsRuleOf p order slot.unit) (part_rows back_of slot) rule rules.each member in
+      elim (shows_pivot_of order rows rule) as (λ b. shows_pivot_of order rows rule ≡ b → b ≡ false) [
+        | true ↦ λ e.
+            let found = shown_from_test p order rows rule is.is_row e in
+            let same : (is.pivot).0 ≡ found.0 = greatest_same order rule (is.pivot).0 found.0 ((is.pivot).1).is_greatest found.1 in
+            absurd (unshown (found.0, found.2, ap unit_of (sym same) ∙ (is.pivot).2))
+        | false ↦ λ _. refl
+      ] refl)
 
 -- ---- nothing is ready where the state is done, and only there
 

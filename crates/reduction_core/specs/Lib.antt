@@ -6,6 +6,7 @@ pub mod KeptTask
 pub mod Laws
 pub mod NormalForm
 pub mod Records
+pub mod Shown
 pub mod Table
 pub mod Slots
 pub mod Applying

@@ -43,14 +43,14 @@ impl Model for Board {
 }
 
 impl Board {
-    ghost use Rattle.std.specs.Prelude.{◌≡◌, ◌↔◌, None, List, [], length, All, IsTrue, IfOk, OnOk, MatchOption};
+    ghost use Rattle.std.specs.Prelude.{◌≡◌, ◌↔◌, ⊤, None, List, [], length, All, IsTrue, IfOk, OnOk, MatchOption};
     ghost use Rattle.sparse_row.specs.Row.{Row as RowValue, IsRow};
     ghost use Rattle.sparse_row.specs.ReducedList.{IsReduced};
     ghost use Rattle.sector_machine.specs.State.{State};
     ghost use Rattle.sector_machine.specs.Machine.{Opens, Leads, IsDone, forward_count, back_count};
     ghost use Rattle.sector_machine.specs.Tasks.{IsTableOf};
-    ghost use Rattle.sector_machine.specs.Invariant.{Holds};
-    ghost use Rattle.reduction_core.specs.Records.{event_of, IsAccepted, IsComputed};
+    ghost use Rattle.sector_machine.specs.Invariant.{HoldsOfRows, Holds};
+    ghost use Rattle.reduction_core.specs.Records.{event_of, IsAccepted, IsComputed, Serves};
     ghost use Rattle.reduction_core.specs.Applying.{IsAfter};
     ghost use Rattle.reduction_core.specs.Ready.{NoForward, NoBack, IsReady};
 
@@ -105,13 +105,16 @@ impl Board {
 
     /// The task of the greatest unit outside the busy ones for which a forward event may happen; where
     /// there is none, of the least unit outside them for which a back event may happen. `None` exactly
-    /// where there is neither, and with nothing busy exactly where the board is done.
+    /// where there is neither, and with nothing busy exactly where the board is done. A record that
+    /// meets the task is accepted, and was computed from the rows of its event.
     pub fn ready(&self, busy: &[Unit]) -> Result<Option<Task>, OutOfMemory>
         ensures task { IfOk result (λ ready. MatchOption ready
             (NoForward self.now.order self.now.state busy.now × NoBack self.now.state busy.now)
             (λ task. (task.modulus ≡ self.now.modulus)
             × IsReady self.now.order self.now.state busy.now task.work)) }
         ensures done { IfOk result (λ ready. busy.now ≡ [] → (ready ≡ None) ↔ IsDone self.now.state) }
+        ensures serves { IfOk result (λ ready.
+            MatchOption ready ⊤ (Serves self.now.modulus self.now.order self.now.state)) }
     {
         let alloc = *self.slots.allocator();
         task_in_turn(alloc, &self.slots, busy, self.order, self.modulus)
@@ -166,6 +169,15 @@ impl Board {
         let rows = slots::back_rows(alloc, &self.slots)?;
         let rows = ascending(alloc, rows, self.order)?;
         Ok(Table::of_rows(rows, self.modulus, self.order))
+    }
+
+    /// The state of each board could be one of some equations, as far as its rows tell: this call does
+    /// nothing, and its contract is that law.
+    pub fn holds(&self)
+        ensures { (equations : List RowValue) ×
+            HoldsOfRows self.now.modulus self.now.order equations self.now.state }
+    {
+        let _order = self.order;
     }
 
     /// The modulus of the coefficients.

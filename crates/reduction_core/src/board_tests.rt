@@ -3,8 +3,7 @@
 
 use crate::board::Board;
 use crate::records::Record;
-use crate::rows::Rows;
-use crate::slots::copies;
+use crate::rows::{Rows, copies};
 use crate::task_tests::{Terms, computed};
 use crate::tests::{Wrong, rows_of};
 use field_word::Modulus;

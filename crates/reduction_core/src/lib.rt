@@ -15,6 +15,7 @@ mod plain;
 mod readiness;
 mod records;
 mod rows;
+mod shown;
 mod slots;
 mod table;
 mod task;

@@ -1,6 +1,6 @@
 //! Lists of rows.
 
-ghost use Rattle.std.specs.Prelude.{◌≡◌, ◌↔◌, IsTrue, IfOk, length};
+ghost use Rattle.std.specs.Prelude.{◌≡◌, ◌↔◌, ◌++◌, IsTrue, IfOk, OnOk, length};
 
 use out_of_memory::OutOfMemory;
 use sparse_row::Row;
@@ -63,13 +63,22 @@ impl Rows {
     }
 }
 
-fn copies(alloc: Global, rows: &[Row]) -> Result<Vec<Row>, OutOfMemory>
-    ensures { IfOk result (λ made. made.items ≡ rows.now) }
+/// Appends copies of the rows.
+pub(crate) fn push_copies(made: &mut Vec<Row>, rows: &[Row]) -> Result<(), OutOfMemory>
+    ensures { OnOk result (made.new.items ≡ made.old.items ++ rows.now) }
 {
-    let mut made = Vec::with_capacity(alloc, rows.len())?;
     for row in rows {
         made.push(row.copy()?)?;
     }
+    Ok(())
+}
+
+/// Copies of the rows.
+pub(crate) fn copies(alloc: Global, rows: &[Row]) -> Result<Vec<Row>, OutOfMemory>
+    ensures { IfOk result (λ made. made.items ≡ rows.now) }
+{
+    let mut made = Vec::with_capacity(alloc, rows.len())?;
+    push_copies(&mut made, rows)?;
     Ok(made)
 }
 

@@ -7,6 +7,7 @@ ghost use Rattle.sparse_row.specs.Row.{IsRow};
 ghost use Rattle.reduction_core.specs.Slots.{units_of, state_of, IsUnitAt, IsPushedAt, IsJoined, HaveListedUnits};
 
 use crate::listed::ListedRows;
+use crate::rows::push_copies;
 use integral_index::{Order, Unit};
 use out_of_memory::OutOfMemory;
 use sparse_row::Row;
@@ -61,25 +62,6 @@ pub(crate) fn back_count(slots: &[Slot]) -> usize
         }
     }
     count
-}
-
-/// Appends copies of the rows.
-pub(crate) fn push_copies(made: &mut Vec<Row>, rows: &[Row]) -> Result<(), OutOfMemory>
-    ensures { OnOk result (made.new.items ≡ made.old.items ++ rows.now) }
-{
-    for row in rows {
-        made.push(row.copy()?)?;
-    }
-    Ok(())
-}
-
-/// Copies of the rows.
-pub(crate) fn copies(alloc: Global, rows: &[Row]) -> Result<Vec<Row>, OutOfMemory>
-    ensures { IfOk result (λ made. made.items ≡ rows.now) }
-{
-    let mut made = Vec::with_capacity(alloc, rows.len())?;
-    push_copies(&mut made, rows)?;
-    Ok(made)
 }
 
 /// Copies of the back rows of all units.

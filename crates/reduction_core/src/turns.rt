@@ -1,17 +1,22 @@
 //! The task of the unit whose turn it is.
 
-ghost use Rattle.std.specs.Prelude.{◌≡◌, ◌<◌, ◌↔◌, ◌++◌, ℕ, List, length, filter, slice_index_or, All, IsTrue, IfOk, OnOk, MatchOption};
+ghost use Rattle.std.specs.Prelude.{◌≡◌, ◌<◌, ◌++◌, ℕ, List, length, filter, slice_index_or, All, IfOk, OnOk, MatchOption};
+ghost use Rattle.std.specs.List.Sorted.{IsSorted};
+ghost use Rattle.integral_index.specs.Order.{compare};
 ghost use Rattle.sparse_row.specs.Row.{Row as RowValue, IsRow};
-ghost use Rattle.sector_forward.specs.Elimination.{IsShownBySome};
 ghost use Rattle.sector_machine.specs.Machine.{back_rows};
 ghost use Rattle.sector_machine.specs.Tasks.{shows_pivot_of};
 ghost use Rattle.sector_machine.specs.Invariant.{HoldsOfRows};
 ghost use Rattle.reduction_core.specs.declared.slots.Slot.{Slot as SlotValue};
 ghost use Rattle.reduction_core.specs.Slots.{state_of};
+ghost use Rattle.reduction_core.specs.Shown.{AreShownBy};
 ghost use Rattle.reduction_core.specs.Ready.{NoForward, NoBack, IsForwardTurn, IsBackTurn, IsReady, AreHeld};
 
+use crate::listed::ListedRows;
 use crate::readiness::{back_turn, forward_turn};
-use crate::slots::{Slot, copies};
+use crate::rows::copies;
+use crate::shown::{is_shown, shown_integrals};
+use crate::slots::Slot;
 use crate::task::Task;
 use field_word::Modulus;
 use integral_index::{Integral, Order, Unit};
@@ -79,64 +84,65 @@ fn back_task(
     match &slot.forward {
         Some(forward) => {
             let rows = copies(alloc, forward.rows())?;
-            let below = below(alloc, slots, &rows, order)?;
+            let below = below(alloc, slots, forward, order)?;
             Ok(Task::back(slot.unit, rows, below, modulus))
         }
         None => unreachable!(),
     }
 }
 
-// Copies of the back rows whose pivots the rows show.
-fn below(alloc: Global, slots: &[Slot], rows: &[Row], order: Order) -> Result<Vec<Row>, OutOfMemory>
+// Copies of the back rows whose pivots the rows show. A pivot is of its row's unit, so only units that
+// the rows show are asked.
+fn below(
+    alloc: Global,
+    slots: &[Slot],
+    rows: &ListedRows,
+    order: Order,
+) -> Result<Vec<Row>, OutOfMemory>
     requires { AreHeld order slots.now }
     ensures { IfOk result (λ below.
         below.items ≡ filter (shows_pivot_of order rows.now) (back_rows (state_of slots.now))) }
 {
+    let shown = shown_integrals(alloc, rows.rows(), order)?;
     let mut below = Vec::new(alloc);
     for slot in slots {
-        if let Some(rules) = &slot.back {
-            push_shown(&mut below, rules, rows, order)?;
+        if rows.show_unit(slot.unit) {
+            if let Some(rules) = &slot.back {
+                push_shown(&mut below, rules, &shown, order)?;
+            }
         }
     }
     Ok(below)
 }
 
-// Appends copies of the rules whose pivots the rows show.
+// Appends copies of the rules whose pivots are shown.
 fn push_shown(
     below: &mut Vec<Row>,
     rules: &[Row],
-    rows: &[Row],
+    shown: &[Integral],
     order: Order,
 ) -> Result<(), OutOfMemory>
-    requires { (p : ℕ) × All (IsRow p order) rules.now }
-    ensures { OnOk result
-        (below.new.items ≡ below.old.items ++ filter (shows_pivot_of order rows.now) rules.now) }
+    requires rules { (p : ℕ) × All (IsRow p order) rules.now }
+    requires ascend { IsSorted (compare order) shown.now }
+    ensures { OnOk result ((rows : List RowValue) → AreShownBy order rows shown.now →
+        below.new.items ≡ below.old.items ++ filter (shows_pivot_of order rows) rules.now) }
 {
     for rule in rules {
-        if show_pivot_of(rows, rule, order) {
+        if is_pivot_shown(shown, rule, order) {
             below.push(rule.copy()?)?;
         }
     }
     Ok(())
 }
 
-fn show_pivot_of(rows: &[Row], rule: &Row, order: Order) -> bool
-    requires { (p : ℕ) × IsRow p order rule.now }
-    ensures { result ≡ shows_pivot_of order rows.now rule.now }
+fn is_pivot_shown(shown: &[Integral], rule: &Row, order: Order) -> bool
+    requires rule { (p : ℕ) × IsRow p order rule.now }
+    requires ascend { IsSorted (compare order) shown.now }
+    ensures { (rows : List RowValue) → AreShownBy order rows shown.now →
+        result ≡ shows_pivot_of order rows rule.now }
 {
     match rule.greatest() {
-        Some(x) => show(rows, x),
+        Some(x) => is_shown(shown, x, order),
         None => false,
     }
-}
-
-fn show(rows: &[Row], x: &Integral) -> bool
-    ensures { IsTrue result ↔ IsShownBySome rows.now x.now }
-{
-    for row in rows {
-        if row.coefficient(x) != 0 {
-            return true;
-        }
-    }
-    false
 }

@@ -24,10 +24,10 @@ back-requires c =
     let order = c.args.order in
     let holds = c.requires.held.1 in
     let are : c.in_ok-rows-in-Some.rows.items ≡ rows_at (by_unit forward_of slots) slot.unit =
-    c.in_ok-rows-in-Some.ensures ∙ c.rows.ensures
-    ∙ sym (slot_rows p order c.requires.held.0 slots c.args.place slot holds c.requires.place c.index-slots-place.is forward_of ∙ ap (λ o. unwrap_or o []) c.in-Some.is) in
+    c.in_ok-rows-in-Some.ensures ∙ c.rows.ensures ∙ sym (slot_rows p order c.requires.held.0 slots c.args.place slot holds c.requires.place c.index-slots-place.is forward_of ∙ ap (λ o. unwrap_or o []) c.in-Some.is) in
+    let of_unit = sym (slot_rows p order c.requires.held.0 slots c.args.place slot holds c.requires.place c.index-slots-place.is forward_of ∙ ap (λ o. unwrap_or o []) c.in-Some.is) in
     let below : c.in_ok-below-in-Some.below.items ≡ below_of order (state_of slots) slot.unit =
-    c.in_ok-below-in-Some.ensures ∙ ap (λ rows. filter (shows_pivot_of order rows) (back_rows (state_of slots))) (c.deref.ensures.value ∙ are) in
+    c.in_ok-below-in-Some.ensures ∙ ap (λ rows. filter (shows_pivot_of order rows) (back_rows (state_of slots))) of_unit in
     let turn : IsBackTurn (state_of slots) c.args.busy.now slot.unit = subst (λ s. IsBackTurn (state_of slots) c.args.busy.now s.unit) (sym c.index-slots-place.is) (c.requires.turn slot) in (
       order,
       subst (AreRules p order slot.unit) (sym are) (holds.forward slot.unit),
@@ -42,9 +42,9 @@ returns c =
     let order = c.args.order in
     let holds = c.requires.held.1 in
     let are : c.in_ok-rows-in-Some.rows.items ≡ rows_at (by_unit forward_of slots) slot.unit =
-    c.in_ok-rows-in-Some.ensures ∙ c.rows.ensures
-    ∙ sym (slot_rows p order c.requires.held.0 slots c.args.place slot holds c.requires.place c.index-slots-place.is forward_of ∙ ap (λ o. unwrap_or o []) c.in-Some.is) in
+    c.in_ok-rows-in-Some.ensures ∙ c.rows.ensures ∙ sym (slot_rows p order c.requires.held.0 slots c.args.place slot holds c.requires.place c.index-slots-place.is forward_of ∙ ap (λ o. unwrap_or o []) c.in-Some.is) in
+    let of_unit = sym (slot_rows p order c.requires.held.0 slots c.args.place slot holds c.requires.place c.index-slots-place.is forward_of ∙ ap (λ o. unwrap_or o []) c.in-Some.is) in
     let below : c.in_ok-below-in-Some.below.items ≡ below_of order (state_of slots) slot.unit =
-    c.in_ok-below-in-Some.ensures ∙ ap (λ rows. filter (shows_pivot_of order rows) (back_rows (state_of slots))) (c.deref.ensures.value ∙ are) in
+    c.in_ok-below-in-Some.ensures ∙ ap (λ rows. filter (shows_pivot_of order rows) (back_rows (state_of slots))) of_unit in
     let turn : IsBackTurn (state_of slots) c.args.busy.now slot.unit = subst (λ s. IsBackTurn (state_of slots) c.args.busy.now s.unit) (sym c.index-slots-place.is) (c.requires.turn slot) in
     subst (λ t. (t.modulus ≡ p) × IsReady order (state_of slots) c.args.busy.now t.work) (sym c.back.ensures) (refl, (c.requires.none, turn, are, below))
