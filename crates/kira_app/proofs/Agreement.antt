@@ -1,5 +1,5 @@
 -- The words and the files have one plan or one refusal, but for a divisor of the modulus.
-use Rattle.std.proofs.Common.{◌≡◌, ◌⊎◌, ◌<◌, ◌^◌, inl, inr, ℕ, Bool, true, false, cond, nat_lt, Option, None, Some, List, [], ◌∷◌, ◌++◌, length, Ok, Err, refl, sym, ap, ◌∙◌, subst, arith}
+use Rattle.std.proofs.Common.{◌≡◌, ◌⊎◌, ◌^◌, inl, inr, ℕ, Bool, true, false, cond, nat_lt, Option, None, Some, List, [], ◌∷◌, ◌++◌, length, Ok, Err, refl, sym, ap, ◌∙◌, subst, arith}
 use Rattle.std.specs.Prelude.{⊤}
 use Rattle.std.specs.Result.{is_ok}
 use Rattle.std.specs.FinMap as map
@@ -31,8 +31,8 @@ use Rattle.kira_app.specs.Steps.{Answer, Step, Is, After, Then, Each, plain, OfR
 use Rattle.command_line.specs.Request.{Asked}
 use Rattle.command_line.specs.Request as line
 use Rattle.kira_app.specs.Words.{asks, is_served, job_file, overrides_of}
-use Rattle.kira_app.specs.Sources.{Sources, TreeOf, KinematicsOf, FamiliesOf, TreesOf, ListsOf, OutlineOf, Outlines, SourcesWith, ReadsSources, list_of_entry, no_list, tree_of}
-use Rattle.kira_app.specs.Plans.{status_of, refusal_of, PlanOfSources, ServesAs, ServesWords, PlanOf}
+use Rattle.kira_app.specs.Sources.{Sources, TreeOf, TreesOf, ListsOf, OutlineOf, ReadsSources, list_of_entry, no_list, tree_of}
+use Rattle.kira_app.specs.Plans.{status_of, refusal_of, ServesAs, ServesWords, PlanOf}
 use Rattle.kira_app.specs.TopClauses.{IsAlike, IsDivisorIn}
 use Rattle.kira_app.specs.Laws.{AreAlike, NamesDivisorIn, JobsAgree, JobsNameDivisors}
 

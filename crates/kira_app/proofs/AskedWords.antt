@@ -1,5 +1,5 @@
 -- From what command_line answers to what the words of a call ask for.
-use Rattle.std.proofs.Common.{◌≡◌, ◌≢◌, ◌∙◌, List, Option, Some, None, false, true, map, refl, sym, ap}
+use Rattle.std.proofs.Common.{◌≡◌, ◌≢◌, ◌∙◌, List, Option, Some, None, false, true, map, refl, ap}
 use Rattle.yaml_text.specs.Lines.{Bytes}
 use Rattle.command_line.specs.Command.{rows_at}
 use Rattle.command_line.specs.Request.{Placed, IsSaveGiven, IsRequestOf, asked, given_of, positionals}

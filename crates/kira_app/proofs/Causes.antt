@@ -1,5 +1,5 @@
 -- From what a call answers to its cause, and back.
-use Rattle.std.proofs.Common.{◌≡◌, ◌≢◌, ◌⊎◌, ◌<◌, inl, inr, ℕ, Bool, true, false, Option, Some, List, [], Ok, Err, IfErr, Result, refl, sym, ap, ◌∙◌, subst, arith}
+use Rattle.std.proofs.Common.{◌≡◌, ◌≢◌, ◌⊎◌, inl, inr, ℕ, Bool, true, false, Option, Some, List, [], Ok, Err, IfErr, Result, refl, sym, ap, ◌∙◌, subst, arith}
 use Rattle.std.specs.Result.{is_ok, IsErrAnd}
 use Rattle.std.proofs.lemmas.Bool.{true≢false}
 use Rattle.yaml_text.specs.Lines.{Bytes}
@@ -18,15 +18,14 @@ use Rattle.kira_app.specs.declared.job_files.Trees.{Trees}
 use Rattle.kira_app.specs.declared.status.Status.{Status}
 use Rattle.kira_app.specs.declared.status.Status.TheVariants as status
 use Rattle.kira_app.specs.declared.refusal.Refusal.{Refusal}
-use Rattle.kira_app.specs.Steps.{Answer, Step, Is, After, Then, plain, OfPlan}
-use Rattle.kira_app.specs.Told.{IfTold, ByStatus, SaysMissing, Answers, RefusesTold, Tells}
+use Rattle.kira_app.specs.Steps.{Answer, After, Then, plain, OfPlan}
+use Rattle.kira_app.specs.Told.{IfTold, ByStatus, Answers, RefusesTold, Tells}
 use Rattle.command_line.specs.Request.{Asked}
 use Rattle.command_line.specs.Request as line
-use Rattle.kira_app.specs.declared.words.ServedJob.{ServedJob}
-use Rattle.kira_app.specs.Words.{asks, is_served, job_file, overrides_of, AreAnswered, AsksHelp, IsServedJob}
+use Rattle.kira_app.specs.Words.{asks, is_served, job_file, overrides_of, AreAnswered, AsksHelp}
 use Rattle.kira_app.specs.Sources.{Sources, TreesOf, OutlineOf, ReadsSources}
-use Rattle.kira_app.specs.Plans.{status_of, refusal_of, PlanOfSources, ServesAs, ServesWords, PlanOf}
-use Rattle.kira_app.specs.TopClauses.{HavePlan, AreRefusedAs, AreRefused, IsDivisor, IsDivisorIn, IsPrime, IsReductionFault, Around, HasCause, HasEnded, IsSaidByContents, IsMissedIn, IsAlike, IsAnsweredBy}
+use Rattle.kira_app.specs.Plans.{refusal_of, PlanOfSources, ServesAs, ServesWords, PlanOf}
+use Rattle.kira_app.specs.TopClauses.{HavePlan, AreRefusedAs, IsDivisor, IsDivisorIn, IsPrime, IsReductionFault, Around, HasCause, HasEnded, IsSaidByContents, IsMissedIn, IsAlike, IsAnsweredBy}
 use Rattle.kira_app.specs.Laws.{AreAlike, NamesDivisorIn, JobsAgree, JobsNameDivisors, JobsHaveOneModulus}
 use Rattle.kira_app.proofs.Told.{weaker, always, then_is, then_refused, refused_first, next_answers, missing_said}
 use Rattle.kira_app.proofs.Agreement.{parted, trees_read, single_trees, single_outline}

@@ -1,5 +1,5 @@
 -- What a file that was loaded says.
-use Rattle.std.proofs.Common.{◌≡◌, ◌⊎◌, ℕ, ◌+◌, ◌^◌, ◌<◌, ◌≤◌, nat_lt, true, false, Bool, List, length, take, min, Option, Some, None, Result, Ok, Err, inl, inr, refl, sym, ap, subst, ◌∙◌, cond, arith}
+use Rattle.std.proofs.Common.{◌≡◌, ◌⊎◌, ℕ, ◌<◌, ◌≤◌, nat_lt, true, false, Bool, length, take, min, Option, Some, None, Result, Ok, Err, inl, inr, refl, sym, ap, subst, ◌∙◌, cond, arith}
 use Rattle.std.proofs.lemmas.Bool.{ltb-true, ltb-false, lt-ltb, le-ltb}
 use Rattle.std.proofs.lemmas.List.{take_all, length-take}
 use Rattle.std.specs.Option.{IsSomeAnd}
@@ -15,7 +15,7 @@ use Rattle.input_schema.specs.Readings as input
 use Rattle.kira_app.specs.declared.status.Status.{Status}
 use Rattle.kira_app.specs.declared.status.Status.TheVariants as status
 use Rattle.kira_app.specs.declared.refusal.Refusal.{Refusal}
-use Rattle.kira_app.specs.Steps.{Answer, Is, OfReading, plainly}
+use Rattle.kira_app.specs.Steps.{Is, OfReading, plainly}
 use Rattle.kira_app.specs.Told.{IfTold, ByStatus, Answers, RefusesTold, Tells}
 use Rattle.kira_app.specs.Sources.{tree_from, tree_in, tree_of_entry, TreeOf, no_list, list_of_entry, list_of}
 use Rattle.kira_app.proofs.Told.{weaker, next_answers}

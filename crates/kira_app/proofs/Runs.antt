@@ -1,11 +1,11 @@
 -- The run of the board on one thread.
-use Rattle.std.proofs.Common.{◌≡◌, inl, inr, Ok, Err, IfErr, Result, ℕ, ◌+◌, ◌-◌, ◌*◌, ◌<◌, ◌≤◌, List, [], ◌∷◌, ◌++◌, length, refl, sym, ap, subst, ◌∙◌, arith}
+use Rattle.std.proofs.Common.{◌≡◌, inl, inr, Ok, Err, IfErr, Result, ℕ, ◌+◌, ◌-◌, ◌*◌, ◌<◌, List, [], ◌∷◌, ◌++◌, length, refl, sym, ap, subst, ◌∙◌, arith}
 use Rattle.std.specs.Result.{IsErrAnd}
 use Rattle.integral_index.specs.declared.Order.{Order}
 use Rattle.sparse_row.specs.Row.{Row}
 use Rattle.sector_forward.specs.declared.fault.ForwardFault.{ForwardFault}
 use Rattle.sector_machine.specs.State.{State}
-use Rattle.sector_machine.specs.Machine.{Event, Leads, LeadOn, IsRun, IsDone, Opens, forward_count, back_count}
+use Rattle.sector_machine.specs.Machine.{Event, Leads, LeadOn, IsDone, Opens, forward_count, back_count}
 use Rattle.sector_machine.specs.Invariant.{HoldsOfRows, Holds}
 use Rattle.sector_machine.specs.Laws.{ForwardIsCounted, BackIsCounted, CountsAreBounded, DoneIsCounted, RunsHold, RunsAreShort}
 use Rattle.sector_machine.proofs.Runs.{leads_on_more}

@@ -12,7 +12,7 @@ use Rattle.table_text.specs.TableText.{table_text, zeros_of}
 use Rattle.job_equations.specs.Laws.{OneListOfEquations}
 use Rattle.job_plan.specs.Plans.{Plan}
 use Rattle.kira_app.specs.Message.{status_of_fault}
-use Rattle.kira_app.specs.TopClauses.{AreEquationsOf, IsTableOf, IsSolved, IsTextOf, IsReductionFault}
+use Rattle.kira_app.specs.TopClauses.{AreEquationsOf, IsSolved, IsTextOf, IsReductionFault}
 
 -- the table of a board whose state could be reached from the equations is their one reduced list
 pub solved_table : OneListOfEquations → (plan : Plan) (equations : List Row) (table : Table) → AreEquationsOf plan equations →

@@ -1,5 +1,5 @@
 -- The plan of a job, or its first refusal, as the words and the files give it. The project's own.
-use Rattle.std.specs.Prelude.{◌≡◌, ℕ, Bool, if◌then◌else◌, List, [], Ok, Err, map, slice_index_or}
+use Rattle.std.specs.Prelude.{ℕ, Bool, if◌then◌else◌, List, [], Ok, Err, map, slice_index_or}
 use Rattle.yaml_text.specs.Lines.{Bytes}
 use Rattle.input_schema.specs.declared.faults.File.{File}
 use Rattle.input_schema.specs.declared.faults.File.TheVariants as file
@@ -14,7 +14,7 @@ use Rattle.kira_outside.specs.Held.{Held}
 use Rattle.kira_app.specs.declared.status.Status.{Status}
 use Rattle.kira_app.specs.declared.status.Status.TheVariants as status
 use Rattle.kira_app.specs.declared.refusal.Refusal.{Refusal}
-use Rattle.kira_app.specs.Steps.{Answer, Step, Is, Then, plain, OfPlan}
+use Rattle.kira_app.specs.Steps.{Step, Is, Then, plain, OfPlan}
 use Rattle.command_line.specs.Request.{Asked}
 use Rattle.command_line.specs.Request as line
 use Rattle.kira_app.specs.Words.{asks, is_served, job_file, overrides_of}

@@ -1,6 +1,6 @@
 -- A run of the board on one thread.
 use Rattle.std.specs.Prelude.{◌≡◌, ◌⊎◌, ◌+◌, ℕ, List}
-use Rattle.sector_machine.specs.Machine.{Event, Leads, LeadOn, forward_count}
+use Rattle.sector_machine.specs.Machine.{Event, Leads, LeadOn}
 use Rattle.sector_forward.specs.declared.fault.ForwardFault.{ForwardFault}
 use Rattle.sector_forward.specs.declared.fault.ForwardFault.TheVariants as fault
 use Rattle.reduction_core.specs.Board.{Board}

@@ -1,12 +1,12 @@
 -- What is claimed of a step: contents only where the files tell them. The project's own.
-use Rattle.std.specs.Prelude.{◌≡◌, ◌≢◌, ⊤, ℕ, Option, None, MatchOption, Result, Ok, Err}
+use Rattle.std.specs.Prelude.{◌≡◌, ⊤, ℕ, Option, None, MatchOption, Ok, Err}
 use Rattle.kira_outside.specs.Faults.{Rose}
 use Rattle.kira_outside.specs.Held.{Held}
 use Rattle.input_schema.specs.declared.faults.InputKind.TheVariants.{Missing}
 use Rattle.kira_app.specs.declared.status.Status.{Status}
 use Rattle.kira_app.specs.declared.status.Status.TheVariants as status
 use Rattle.kira_app.specs.declared.refusal.Refusal.{Refusal}
-use Rattle.kira_app.specs.Steps.{Answer, Step}
+use Rattle.kira_app.specs.Steps.{Step}
 
 -- where the content is told, this is true of it
 abbrev pub IfTold : Option Held → (Held → Type 0) → Type 0

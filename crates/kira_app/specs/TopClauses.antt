@@ -1,8 +1,8 @@
 -- What the call of the program promises.
-use Rattle.std.specs.Prelude.{◌≡◌, ◌≢◌, ◌⊎◌, ◌≤◌, ◌<◌, ⊤, ℕ, List, [], length, ◌+◌, Result, Option, None, Some, option_map, Ok, Err}
+use Rattle.std.specs.Prelude.{◌≡◌, ◌≢◌, ◌⊎◌, ◌<◌, ⊤, ℕ, List, [], length, ◌+◌, Result, Option, None, option_map, Ok, Err}
 use Rattle.std.specs.Int.{◌∣◌}
 use Rattle.yaml_text.specs.Lines.{Bytes}
-use Rattle.integral_index.specs.declared.Unit.{Unit}
+use Rattle.integral_index.specs.declared.Unit.{Unit as SectorUnit}
 use Rattle.sparse_row.specs.Row.{Row}
 use Rattle.sparse_row.specs.ReducedList.{IsReduced}
 use Rattle.sector_machine.specs.Machine.{AreUnitsOf}
@@ -73,7 +73,7 @@ IsPartlySent before after plan = (bytes : List ℕ) × IsTextOf plan bytes × Is
 pub record TakesUnits (before after : ℕ) (plan : Plan) : Type 0 where
   pub equations : List Row
   pub are : AreEquationsOf plan equations
-  pub units : List Unit
+  pub units : List SectorUnit
   pub units_are : AreUnitsOf equations units
   pub taken : after ≡ before + length units
 

@@ -1,5 +1,5 @@
 -- What the words of a call ask for. The project's own.
-use Rattle.std.specs.Prelude.{◌≡◌, ◌≢◌, ⊤, ℕ, Bool, true, false, not, ◌&&◌, List, map, None, is_some}
+use Rattle.std.specs.Prelude.{◌≡◌, ◌≢◌, ⊤, Bool, true, false, not, ◌&&◌, List, map, None, is_some}
 use Rattle.yaml_text.specs.Lines.{Bytes}
 use Rattle.job_schema.specs.Overridden.{Override}
 use Rattle.command_line.specs.Command.{rows_at}

@@ -1,4 +1,4 @@
-use Rattle.std.proofs.Common.{◌≡◌, codes}
+use Rattle.std.proofs.Common.{codes}
 use Rattle.input_schema.specs.declared.faults.File.TheVariants.{Families}
 use Rattle.kira_app.specs.Steps.{plain, plainly}
 use Rattle.kira_app.specs.Sources.{TreeOf, KinematicsOf, FamiliesOf}

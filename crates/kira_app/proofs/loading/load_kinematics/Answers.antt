@@ -1,4 +1,4 @@
-use Rattle.std.proofs.Common.{◌≡◌, codes, Ok, refl}
+use Rattle.std.proofs.Common.{codes, Ok, refl}
 use Rattle.input_schema.specs.declared.faults.File.TheVariants.{Kinematics}
 use Rattle.kira_app.specs.Steps.{Is, plain}
 use Rattle.kira_app.specs.Sources.{TreeOf, KinematicsOf}

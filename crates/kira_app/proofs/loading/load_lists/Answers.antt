@@ -1,10 +1,8 @@
-use Rattle.std.proofs.Common.{◌≡◌, ◌+◌, ◌<◌, ◌≤◌, ◌^◌, ◌∙◌, ℕ, List, [], ◌∷◌, ◌++◌, All, map, length, length-append, arith, refl, sym, ap, subst}
+use Rattle.std.proofs.Common.{◌≡◌, ◌<◌, ◌≤◌, ◌^◌, ◌∙◌, [], map, length, length-append, arith, refl, subst}
 use Rattle.std.proofs.lemmas.List.{map-append, length-map}
 use Rattle.std.proofs.lemmas.List.Elements.{All-nil, All-push}
-use Rattle.std.specs.declared.vec.Vec.{Vec}
-use Rattle.yaml_text.specs.Lines.{Bytes}
 use Rattle.kira_outside.specs.Faults.{Rose}
-use Rattle.kira_app.specs.Told.{IfTold, IsMissed}
+use Rattle.kira_app.specs.Told.{IsMissed}
 use Rattle.kira_app.specs.Sources.{ListsOf}
 use Rattle.kira_app.proofs.Told.{always}
 use Rattle.kira_app.proofs.ListLoading.{HasListed, listed_none, goes_on_listed, stops_listed, err_texts, err_refusal}

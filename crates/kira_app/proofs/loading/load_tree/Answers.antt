@@ -1,4 +1,4 @@
-use Rattle.std.proofs.Common.{◌≡◌, ℕ, List, subst}
+use Rattle.std.proofs.Common.{ℕ, List, subst}
 use Rattle.input_schema.specs.Readings as input
 use Rattle.kira_app.specs.Steps.{OfReading, plainly}
 use Rattle.kira_app.specs.Told.{Answers}

@@ -1,4 +1,3 @@
-use Rattle.std.proofs.Common.{◌≡◌}
 use Rattle.input_schema.specs.declared.faults.File.TheVariants.{Jobs}
 use Rattle.kira_app.specs.Steps.{plain, plainly}
 use Rattle.kira_app.specs.Sources.{TreeOf, FamiliesOf, TreesOf}

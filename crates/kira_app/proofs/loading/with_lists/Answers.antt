@@ -1,4 +1,4 @@
-use Rattle.std.proofs.Common.{◌≡◌, ◌≤◌, ◌^◌, ◌∙◌, List, length, map, Ok, ap}
+use Rattle.std.proofs.Common.{◌≤◌, ◌^◌, ◌∙◌, length, Ok, ap}
 use Rattle.std.proofs.lemmas.List.{length-map}
 use Rattle.std.proofs.lemmas.List.Elements.{All-map}
 use Rattle.yaml_text.specs.Lines.{Bytes}

@@ -1,4 +1,4 @@
-use Rattle.std.proofs.Common.{◌≡◌, ◌∙◌, ◌∷◌, [], codes, decimal, List, ℕ, subst, option_map, OnOk, OnErr}
+use Rattle.std.proofs.Common.{◌≡◌, ◌∙◌, ◌∷◌, [], codes, List, ℕ, subst, option_map, OnOk, OnErr}
 use Rattle.kira_outside.specs.Stream.{appended}
 use Rattle.table_text.specs.Sending.{IsPrefixSent}
 use Rattle.kira_app.specs.Message.{line_of}

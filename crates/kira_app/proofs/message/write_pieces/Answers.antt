@@ -1,4 +1,4 @@
-use Rattle.std.proofs.Common.{◌≡◌, ◌∙◌, List, ℕ}
+use Rattle.std.proofs.Common.{◌∙◌}
 use Rattle.kira_app.proofs.Messages.{on_err, prefix_within, written_more}
 use Rattle.kira_app.proofs.message.write_pieces.Goals as goal
 

@@ -1,4 +1,4 @@
-use Rattle.std.proofs.Common.{◌≡◌, ◌≤◌, map, take, option_map}
+use Rattle.std.proofs.Common.{◌≡◌, map, take, option_map}
 use Rattle.std.specs.List.{concat}
 use Rattle.kira_outside.specs.Stream.{appended}
 use Rattle.kira_app.proofs.message.write_pieces.Given as goal

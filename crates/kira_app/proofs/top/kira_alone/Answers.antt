@@ -1,7 +1,6 @@
 -- Each answer has its cause; where the files tell a first refusal, or a plan of a prime, it is the answer.
 use Rattle.std.proofs.Common.{[], map}
 use Rattle.std.specs.String.{string_bytes}
-use Rattle.kira_app.specs.declared.refusal.Refusal.{Refusal}
 use Rattle.kira_app.specs.declared.status.Status.TheVariants as status
 use Rattle.kira_app.proofs.Causes.{refusal_answered, complete}
 use Rattle.kira_app.proofs.top.kira_alone.Goals as goal

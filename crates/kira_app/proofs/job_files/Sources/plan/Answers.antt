@@ -1,10 +1,9 @@
-use Rattle.std.proofs.Common.{◌≡◌, ◌≤◌, ◌<◌, ◌^◌, ℕ, List, length, map, get_or, All, sym, subst, ◌∙◌}
+use Rattle.std.proofs.Common.{◌≤◌, ◌<◌, ◌^◌, ℕ, List, length, map, All, sym, subst}
 use Rattle.std.proofs.lemmas.List.{get_or-map, length-map}
 use Rattle.std.specs.declared.vec.Vec.{Vec}
 use Rattle.yaml_text.specs.Lines.{Bytes}
 use Rattle.job_plan.specs.Plans.{IsPlan}
 use Rattle.kira_app.specs.Steps.{OfPlan, plain}
-use Rattle.kira_app.specs.Told.{Answers}
 use Rattle.kira_app.specs.Sources.{OutlineOf}
 use Rattle.kira_app.specs.Plans.{refusal_of}
 use Rattle.kira_app.proofs.Told.{answers_later, refused_then}
