@@ -54,11 +54,11 @@ module _ (forwards : ForwardIsCounted) (backs : BackIsCounted) where
       let counted = so_far.counted in
       record {
         run = record {
-            events = run.events ++ event_of next.entry ∷ [];
-            lead = leads_on_more before.modulus before.order run.events (event_of next.entry) before.state now.state after.state run.lead leads;
-            modulus = next.modulus ∙ run.modulus;
-            order = next.order ∙ run.order;
-          };
+          events = run.events ++ event_of next.entry ∷ [];
+          lead = leads_on_more before.modulus before.order run.events (event_of next.entry) before.state now.state after.state run.lead leads;
+          modulus = next.modulus ∙ run.modulus;
+          order = next.order ∙ run.order;
+        };
         units = counts.0 ∙ so_far.units;
         counted = omega (arith, taken, forward, counted);
       }

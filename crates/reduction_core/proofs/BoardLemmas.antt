@@ -75,9 +75,9 @@ module _ (p : ℕ) (order : Order) (state : State) (board : IsBoard p order stat
   meets_conditions : (w : Work) → IsReady order state busy w → MeetsConditions p order w
   meets_conditions (work.Forward unit rows) is = subst (All (IsTaken p order unit)) (sym is.1) (board.holds.waiting.grouped unit)
   meets_conditions (work.Back unit rows below) is = (
-      subst (AreRules p order unit) (sym is.2) (board.holds.forward unit),
-      subst (AreBelow p order unit) (sym is.3) (are_below p order board.equations unit state board.holds (is.1).may),
-    )
+    subst (AreRules p order unit) (sym is.2) (board.holds.forward unit),
+    subst (AreBelow p order unit) (sym is.3) (are_below p order board.equations unit state board.holds (is.1).may),
+  )
 
   -- what is computed from them is accepted
   outcome_serves : (w : Work) (made : Record) → IsReady order state busy w → IsOutcome p order w made → IsAccepted p order state made × IsComputed p order state made × (steps_of made ≡ step_count w)

@@ -60,23 +60,23 @@ gained_more terms n term old now within read before x =
 
 pub gained_row : (order : Order) (terms : List Term) (row : Row) (n : ℕ) (old now : List Integral) → IsTermList order terms → ((x : Integral) → coefficient row x ≡ total_at x terms) → length terms ≤ n → n ≤ length terms → HasGainedBefore terms n old now → HasGained row old now
 gained_row order terms row n old now list is low high before x = (
-      λ member.
-          elim ((before x).0 member) [
-            | inl first ↦ inl first
-            | inr (k, h, of_k) ↦
-                let d : Term = record { integral = record { family = 0; indices = [] }; coefficient = 0 } in
-                let at : coefficient row x ≡ (get_or terms k d).coefficient =
-                is x ∙ ap (λ y. total_at y terms) (sym (of_k d)) ∙ total_at-place order terms k d (omega arith) (Descends-from_pairs order terms list.descend) in
-                inr (λ e. list.no_zero k d (omega arith) (sym at ∙ e))
-          ],
-      λ either.
-          elim either [
-            | inl first ↦ (before x).1 (inl first)
-            | inr shows ↦
-                let found = term_of_shown x terms (λ e. shows (is x ∙ e)) in
-                (before x).1 (inr (found.0, omega (arith, found.1), found.2))
-          ],
-    )
+  λ member.
+      elim ((before x).0 member) [
+        | inl first ↦ inl first
+        | inr (k, h, of_k) ↦
+            let d : Term = record { integral = record { family = 0; indices = [] }; coefficient = 0 } in
+            let at : coefficient row x ≡ (get_or terms k d).coefficient =
+            is x ∙ ap (λ y. total_at y terms) (sym (of_k d)) ∙ total_at-place order terms k d (omega arith) (Descends-from_pairs order terms list.descend) in
+            inr (λ e. list.no_zero k d (omega arith) (sym at ∙ e))
+      ],
+  λ either.
+      elim either [
+        | inl first ↦ (before x).1 (inl first)
+        | inr shows ↦
+            let found = term_of_shown x terms (λ e. shows (is x ∙ e)) in
+            (before x).1 (inr (found.0, omega (arith, found.1), found.2))
+      ],
+)
 
 -- ---- the integrals of rows
 
