@@ -1,5 +1,5 @@
 -- What the words of a call ask for, or that they are refused. The project's own.
-use Rattle.std.specs.Prelude.{◌≡◌, ⊤, ℕ, ◌^◌, Bool, true, false, not, ◌&&◌, nat_lt, if◌then◌else◌, List, [], ◌∷◌, codes, drop, length, map}
+use Rattle.std.specs.Prelude.{◌≡◌, ◌≢◌, ⊤, ℕ, ◌^◌, Bool, true, false, not, ◌&&◌, nat_lt, if◌then◌else◌, List, [], ◌∷◌, codes, drop, length, map}
 use Rattle.std.specs.Prelude.{Option, Some, None, is_some, option_map, unwrap_or, Result, Ok, Err, MatchOption, slice_get}
 use Rattle.std.specs.List.{list_all}
 use Rattle.std.specs.Option.{option_map_or}
@@ -163,8 +163,9 @@ IsAnswerBy words rows texts (Ok asks) = (is_accepted rows texts ≡ true) × IsR
 IsAnswerBy words rows texts (Err fault.Usage) = is_accepted rows texts ≡ false
 IsAnswerBy words rows texts (Err fault.OutOfMemory) = ⊤
 
+-- Memory may be wanting for all words but the one that asks for the usage line.
 abbrev pub IsAnswerOf : List Text → Result Request WordsFault → Type 0
 IsAnswerOf words (Ok request.Help) = asked words ≡ help
 IsAnswerOf words (Ok asks) = (asked words ≡ call) × IsRequestOf words (given_of (rows_at words)) (positionals (rows_at words)) asks
 IsAnswerOf words (Err fault.Usage) = asked words ≡ usage
-IsAnswerOf words (Err fault.OutOfMemory) = ⊤
+IsAnswerOf words (Err fault.OutOfMemory) = asked words ≢ help

@@ -1,5 +1,5 @@
 -- From what command_line answers to what the words of a call ask for.
-use Rattle.std.proofs.Common.{◌≡◌, ◌≢◌, ◌∙◌, List, Option, Some, None, false, true, map, refl, ap}
+use Rattle.std.proofs.Common.{◌≡◌, ◌≢◌, ◌∙◌, List, Option, Some, None, false, true, map, refl, sym, ap}
 use Rattle.yaml_text.specs.Lines.{Bytes}
 use Rattle.command_line.specs.Command.{rows_at}
 use Rattle.command_line.specs.Request.{Placed, IsSaveGiven, IsRequestOf, asked, given_of, positionals}
@@ -38,7 +38,10 @@ module _ (words : List Bytes) (job : JobRequest) (called : asked words ≡ line.
     overrides = h.2 ∙ ap (map override_of) is.1.overrides;
   }
   job_wanted (wanted.Refused status.NotYet) h = (called, with_save h)
-  job_wanted (wanted.Refused status.OutOfMemory) h = tt
+  job_wanted (wanted.Refused status.OutOfMemory) h = λ help. apart (sym called ∙ help)
+    where
+      apart : line.call ≡ line.help → ⊥
+      apart e = cc
   job_wanted (wanted.Refused status.Ok) h = absurd h
   job_wanted (wanted.Refused status.Usage) h = absurd h
   job_wanted (wanted.Refused (status.Input fault)) h = absurd h

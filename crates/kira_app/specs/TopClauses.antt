@@ -167,11 +167,10 @@ abbrev pub HasEnded : Around → Result (Unit {0}) Refusal → Type 0
 HasEnded a (Ok _) = HasCause a status.Ok []
 HasEnded a (Err refusal) = (refusal.status ≢ status.Ok) × HasCause a refusal.status refusal.name
 
--- The usage line was sent and flushed, or a prefix of it was where the count rose, or nothing.
+-- The usage line was sent and flushed, or a prefix of it was where the count rose.
 abbrev pub HasShown : Status → Option Stream → Option Stream → ℕ → ℕ → Type 0
 HasShown status.Ok before after faults faults_after = (after ≡ option_map (sent usage_line) before) × (faults_after ≡ faults)
 HasShown status.WriteFault before after faults faults_after = IsPrefixSent usage_line before after × Rose faults faults_after
-HasShown status.OutOfMemory before after faults faults_after = after ≡ before
 HasShown other before after faults faults_after = ⊥
 
 -- the message of such a status names a list file or a family

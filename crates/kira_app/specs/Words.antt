@@ -64,7 +64,7 @@ pub record IsServedJob (words : List Bytes) (asks_for : ServedJob) : Type 0 wher
 abbrev pub AreAnswered : List Bytes → Status → Type 0
 AreAnswered words status.Usage = AsksUsage words
 AreAnswered words status.NotYet = AsksUnserved words
-AreAnswered words status.OutOfMemory = ⊤
+AreAnswered words status.OutOfMemory = ¬ (AsksHelp words)
 AreAnswered words other = ⊥
 
 abbrev pub IsWanted : List Bytes → Wanted → Type 0
