@@ -19,7 +19,7 @@ import kira
 
 TOP = pathlib.Path(__file__).resolve().parent.parent
 NAME = "board_terms"
-SAID = ["units", "equations", "forward", "rest", "back", "waiting", "board", "plain"]
+SAID = ["forward", "rest", "back", "waiting"]
 
 
 def workspace(folder):
@@ -62,7 +62,7 @@ def main():
     differ = False
     with tempfile.TemporaryDirectory() as place:
         program = built(workspace(place))
-        print(f"{'job':<26}" + "".join(f" {word:>10}" for word in SAID) + "  (board and plain: milliseconds)")
+        print(f"{'job':<26}" + "".join(f" {word:>10}" for word in SAID))
         jobs = [(folder.name, folder) for folder in examples] if options.examples else kira.JOBS
         for name, *job in jobs:
             if options.only in name:
@@ -75,4 +75,5 @@ def main():
     sys.exit(1 if differ else 0)
 
 
-main()
+if __name__ == "__main__":
+    main()

@@ -1,15 +1,17 @@
 #!/usr/bin/env python3
 """Times the built program on jobs of growing size.
 
-    python3 bench/kira.py [PROGRAM] [--runs N] [--only WORD]
+    python3 bench/kira.py [PROGRAM] [--runs N] [--only WORD] [--series]
 
 PROGRAM is crates/kira/out/kira where it isn't named. Each job is one of the examples with other bounds, under
 `reduce` and in the selection alike. A line shows the least time of the runs, the greatest memory that one of them
 held (by the program `time`; without it none is told), and how many equations the job has and terms other than 0 in
-them. These two come from examples/reference.py, which writes the equations apart from the program and needs PyYAML;
+them. With --series the jobs are those of two families, each of a growing r, and a line also shows by how much the time
+grew for each doubling of the equations since the line before. These two come from examples/reference.py, which writes the equations apart from the program and needs PyYAML;
 without it they are left out.
 """
 import argparse
+import math
 import os
 import pathlib
 import re
@@ -36,6 +38,12 @@ JOBS = [
     ("pentagon r 8 s 1", "pentagon_massless", 8, 1),
     ("sunrise r 6 s 2", "sunrise_equal_masses", 6, 2),
     ("double box r 7 s 1", "double_box_planar", 7, 1),
+]
+
+# Jobs of one family whose equations about double from one to the next.
+SERIES = [
+    *[(f"box r {r} s 3", "box_massless", r, 3) for r in (8, 9, 11, 13, 15, 18)],
+    *[(f"pentagon r {r} s 1", "pentagon_massless", r, 1) for r in (6, 7, 8, 9)],
 ]
 
 
@@ -76,15 +84,22 @@ def sizes(folder):
     return len(rows), sum(len(row) for row in rows)
 
 
+def growth(before, now):
+    """By how much the time grows where the equations double, from two pairs of equations and seconds."""
+    doublings = math.log2(now[0] / before[0])
+    return (now[1] / before[1]) ** (1 / doublings)
+
+
 def main():
     parser = argparse.ArgumentParser(description=__doc__, formatter_class=argparse.RawDescriptionHelpFormatter)
     parser.add_argument("program", nargs="?", default=str(TOP / "crates/kira/out/kira"))
     parser.add_argument("--runs", type=int, default=3)
     parser.add_argument("--only", default="")
+    parser.add_argument("--series", action="store_true")
     options = parser.parse_args()
-    program, failed = os.path.abspath(options.program), False
+    program, failed, before = os.path.abspath(options.program), False, None
     print(f"{'job':<20} {'equations':>10} {'terms':>10} {'seconds':>9} {'MB':>8}")
-    for name, example, r, s in JOBS:
+    for name, example, r, s in SERIES if options.series else JOBS:
         if options.only not in name:
             continue
         with tempfile.TemporaryDirectory() as place:
@@ -94,7 +109,11 @@ def main():
             equations, terms = sizes(folder)
             seconds, kilobytes = min(run[0] for run in runs), max(run[1] for run in runs)
             memory = f"{kilobytes / 1024:.1f}" if kilobytes else "-"
-            print(f"{name:<20} {equations:>10} {terms:>10} {seconds:>9.3f} {memory:>8}", flush=True)
+            line = f"{name:<20} {equations:>10} {terms:>10} {seconds:>9.3f} {memory:>8}"
+            if options.series and before and before[0] == example:
+                line += f" {growth(before[1:], (equations, seconds)):>6.2f} for each doubling"
+            before = (example, equations, seconds)
+            print(line, flush=True)
     sys.exit(1 if failed else 0)
 
 
