@@ -6,9 +6,9 @@
 PROGRAM is crates/kira/out/kira where it isn't named. Each job is one of the examples with other bounds, under
 `reduce` and in the selection alike. A line shows the least time of the runs, the greatest memory that one of them
 held (by the program `time`; without it none is told), and how many equations the job has and terms other than 0 in
-them. With --series the jobs are those of two families, each of a growing r, and a line also shows by how much the time
-grew for each doubling of the equations since the line before. These two come from examples/reference.py, which writes the equations apart from the program and needs PyYAML;
-without it they are left out.
+them. These two come from examples/reference.py, which writes the equations apart from the program and needs PyYAML;
+without it they are left out. With --series the jobs are those of two families, each of a growing r, and a line also
+shows by how much the time grew for each doubling of the equations since the line before.
 """
 import argparse
 import math

@@ -10,21 +10,19 @@ a, a loop momentum l and a momentum q
 
 where the derivative of D_j by l, times q, is c_j0 + sum over k of c_jk D_k (Kira, arXiv:1705.05610). A unit is a
 sector: it takes those equations of its seeds whose greatest integral is of the sector. A small program, that of
-sector_forward/, hands them to `eliminate`, and times the call. It is built as the program `kira` is, by `rt run`, in a
-folder for the time; what `rt` left in the crates' out/ is taken along, and else made first, in some minutes.
+sector_forward/, hands them to `eliminate`, and times the call. It is built first, in some minutes, as workspace.py says.
 
 A line for each unit shows the seconds, the rows taken, the rows with a pivot in the unit and the rest, each with the
 number of their terms. Rows and rest should have no more terms than the input: the exit status is 1 where they have.
 """
 import argparse
 import itertools
-import pathlib
-import shutil
 import subprocess
 import sys
 import tempfile
 
-TOP = pathlib.Path(__file__).resolve().parent.parent
+from workspace import built, workspace
+
 CRATES = ["out_of_memory", "field_word", "integral_index", "sparse_row", "step_counter", "sector_forward"]
 WORD_31, WORD_63 = 2147483647, 9223372036854775783
 DIMENSION = 7093  # of no meaning, so that no coefficient vanishes by chance
@@ -211,31 +209,6 @@ def text_of(rows, sector, modulus):
     return "\n".join(lines) + "\n"
 
 
-def workspace(folder):
-    """A repository of the program and the crates that it stands on; the program's folder."""
-    top = pathlib.Path(folder)
-    for name in CRATES:
-        shutil.copytree(TOP / "crates" / name, top / "crates" / name)
-    lines = (TOP / "crates.txt").read_text().splitlines()
-    lines = [line for line in lines if line.split(":")[0] in CRATES]
-    lines.append("forward: " + " ".join(CRATES + ["anyhow", "thiserror"]))
-    (top / "crates.txt").write_text("\n".join(lines) + "\n")
-    program, texts = top / "crates" / "forward", TOP / "bench" / "sector_forward"
-    for text in texts.rglob("*.txt"):
-        file = program / text.relative_to(texts).with_suffix("")
-        file.parent.mkdir(parents=True, exist_ok=True)
-        shutil.copy(text, file)
-    return program
-
-
-def built(program):
-    """The program, built: `rt run` runs it once, and it refuses an empty input."""
-    done = subprocess.run(["rt", "run"], cwd=program, stdin=subprocess.DEVNULL, capture_output=True, text=True)
-    if not (program / "out" / "forward").is_file():
-        sys.exit(done.stdout + done.stderr)
-    return program / "out" / "forward"
-
-
 def run(program, text):
     """What the program prints of a unit: the numbers of a line, by its first word."""
     done = subprocess.run([program], input=text, capture_output=True, text=True)
@@ -266,7 +239,7 @@ def main():
     options = parser.parse_args()
     units = [unit for unit in UNITS + MORE_UNITS * options.more if options.only in unit[0]]
     with tempfile.TemporaryDirectory() as folder:
-        program = built(workspace(folder))
+        program = built(workspace(folder, "forward", "sector_forward", [*CRATES, "anyhow", "thiserror"], CRATES))
         pairs = itertools.product(units, [WORD_31, WORD_63])
         more = [report(program, unit, modulus, options.times) for unit, modulus in pairs]
     sys.exit(1 if any(more) else 0)
