@@ -35,7 +35,7 @@ def main():
     parser.add_argument("--only", default="")
     parser.add_argument("--examples", action="store_true")
     options = parser.parse_args()
-    examples = sorted(path.parent for path in (TOP / "examples").glob("*/jobs.yaml"))
+    examples = sorted(path.parent for path in (TOP / "examples").glob("*/expected"))
     differ = False
     with tempfile.TemporaryDirectory() as place:
         program = built(workspace(place, "board_terms", "board", USES, CRATES))
