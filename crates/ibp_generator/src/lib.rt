@@ -8,6 +8,7 @@ mod shifts;
 mod terms;
 
 pub use equations::equation;
+pub use shifts::are_seed_indices;
 
 #[cfg(test)]
 mod tests;

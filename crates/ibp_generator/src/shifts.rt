@@ -1,8 +1,8 @@
 //! Integrals with one index changed.
 
-ghost use Rattle.std.specs.Prelude.{◌≡◌, ◌+◌, ◌<◌, ◌+ℤ◌, length, pos, slice_index_or, slice_set, IfOk};
+ghost use Rattle.std.specs.Prelude.{◌≡◌, ◌↔◌, ◌+◌, ◌<◌, ◌+ℤ◌, All, length, pos, slice_index_or, slice_set, IsTrue, IfOk};
 ghost use Rattle.integral_index.specs.Integral.{IsIndex};
-ghost use Rattle.ibp_generator.specs.Shifts.{index_at, shifted};
+ghost use Rattle.ibp_generator.specs.Shifts.{IsSeedIndex, index_at, shifted};
 
 use integral_index::Integral;
 use out_of_memory::OutOfMemory;
@@ -36,4 +36,17 @@ fn add_at(indices: &mut [i8], place: usize, by: i8)
     ensures { indices.new ≡ slice_set indices.old place (slice_index_or indices.old place (pos 0) +ℤ by) }
 {
     indices[place] += by;
+}
+
+/// Whether a seed may have these indices: each is from -100 to 100, so that one can be added to it.
+pub fn are_seed_indices(indices: &[i8]) -> bool
+    ensures { IsTrue result ↔ All IsSeedIndex indices.now }
+{
+    indices.iter().all(|index| is_seed_index(*index))
+}
+
+fn is_seed_index(index: i8) -> bool
+    ensures { IsTrue result ↔ IsSeedIndex index }
+{
+    index.unsigned_abs() <= 100
 }

@@ -1,18 +1,15 @@
 //! Equations of the one-loop bubble, the one-loop triangle and a two-loop vacuum diagram modulo 101. The
 //! bubble's were worked by hand, the others by a script that solves for the denominators on its own.
 
-ghost use Rattle.std.specs.Prelude.{◌≡◌, ◌≤◌, ◌↔◌, All, IsTrue, IfOk, length};
-ghost use Rattle.kinematics.specs.Rules.{IsRule};
-ghost use Rattle.propagators.specs.Denominators.{IsDenominator};
+ghost use Rattle.std.specs.Prelude.{◌≡◌, ◌≤◌, IfOk, length};
 ghost use Rattle.propagators.specs.Forms.{product_total};
-ghost use Rattle.ibp_generator.specs.Shifts.{IsSeedIndex};
 
 use super::*;
 use field_word::Modulus;
 use integral_index::{Integral, Order, ZeroSectors, is_index_list};
-use kinematics::{Momentum, Point, Rule, point};
+use kinematics::{Momentum, Point, Rule, are_coefficients, point, rules_fit};
 use out_of_memory::OutOfMemory;
-use propagators::{Basis, Denominator, family};
+use propagators::{Basis, Denominator, denominators_fit, family};
 use sparse_row::Row;
 use std::alloc::Global;
 use std::test::Fail;
@@ -36,7 +33,7 @@ impl From<OutOfMemory> for Wrong {
 }
 
 fn momentum(alloc: Global, coefficients: &[i16]) -> Result<Momentum, Wrong> {
-    if !coefficients.iter().all(|c| -1000 <= *c && *c <= 1000) {
+    if !are_coefficients(coefficients) {
         return Err(Wrong::Momentum);
     }
     Ok(Momentum::new(alloc, coefficients)?)
@@ -58,21 +55,6 @@ fn rule(alloc: Global, coefficients: &[i16], value: u64) -> Result<Rule, Wrong> 
     })
 }
 
-fn is_rule(rule: &Rule, externals: u32, modulus: &Modulus) -> bool
-    ensures { IsTrue result → IsRule modulus.now externals rule.now }
-{
-    let size = externals as usize;
-    rule.left.coefficients().len() == size
-        && rule.right.coefficients().len() == size
-        && rule.value < modulus.value()
-}
-
-fn are_rules(rules: &[Rule], externals: u32, modulus: &Modulus) -> bool
-    ensures { IsTrue result → All (IsRule modulus.now externals) rules.now }
-{
-    rules.iter().all(|rule| is_rule(rule, externals, modulus))
-}
-
 fn point_of(
     alloc: Global,
     rules: &[Rule],
@@ -83,36 +65,13 @@ fn point_of(
     ensures modulus { IfOk result (λ point. point.modulus ≡ modulus.now) }
     ensures externals { IfOk result (λ point. point.externals ≡ externals) }
 {
-    if !are_rules(rules, externals, modulus) {
+    if !rules_fit(rules, externals, modulus) {
         return Err(Wrong::Rules);
     }
     match point(alloc, rules, externals, modulus) {
         Ok(found) => Ok(found),
         Err(_) => Err(Wrong::Point),
     }
-}
-
-fn is_denominator(denominator: &Denominator, width: usize, modulus: &Modulus) -> bool
-    ensures { IsTrue result → IsDenominator modulus.now width denominator.now }
-{
-    match denominator {
-        Denominator::Square { momentum, mass } => {
-            momentum.coefficients().len() == width && *mass < modulus.value()
-        }
-        Denominator::Bilinear { left, right, mass } => {
-            left.coefficients().len() == width
-                && right.coefficients().len() == width
-                && *mass < modulus.value()
-        }
-    }
-}
-
-fn are_denominators(denominators: &[Denominator], width: usize, modulus: &Modulus) -> bool
-    ensures { IsTrue result → All (IsDenominator modulus.now width) denominators.now }
-{
-    denominators
-        .iter()
-        .all(|denominator| is_denominator(denominator, width, modulus))
 }
 
 fn basis_of(
@@ -130,25 +89,13 @@ fn basis_of(
     ensures { IfOk result (λ basis. basis.point.modulus ≡ modulus.now) }
 {
     let width = loops as usize + point.externals() as usize;
-    if !are_denominators(denominators, width, modulus) {
+    if !denominators_fit(denominators, width, modulus) {
         return Err(Wrong::Denominators);
     }
     match family(alloc, loops, denominators, point, modulus) {
         Ok(basis) => Ok(basis),
         Err(_) => Err(Wrong::Basis),
     }
-}
-
-fn is_seed(indices: &[i8]) -> bool
-    ensures { IsTrue result ↔ All IsSeedIndex indices.now }
-{
-    indices.iter().all(|index| is_seed_index(*index))
-}
-
-fn is_seed_index(index: i8) -> bool
-    ensures { IsTrue result ↔ IsSeedIndex index }
-{
-    index.unsigned_abs() <= 100
 }
 
 fn integral(alloc: Global, indices: &[i8]) -> Result<Integral, Wrong> {
@@ -172,7 +119,7 @@ fn equation_of(alloc: Global, basis: &Basis, asked: &Asked, modulus: &Modulus) -
 {
     let zeros = ZeroSectors::new(alloc, asked.zeros)?;
     if !is_index_list(asked.seed)
-        || !is_seed(asked.seed)
+        || !are_seed_indices(asked.seed)
         || asked.seed.len() != basis.width() as usize
         || asked.loop_number < 1
         || basis.loops() < asked.loop_number
@@ -193,6 +140,10 @@ fn equation_of(alloc: Global, basis: &Basis, asked: &Asked, modulus: &Modulus) -
         modulus,
     )?)
 }
+
+type Terms = &'static [(&'static [i8], u64)];
+
+type Wanted = (&'static [i8], u32, &'static [u32], Terms);
 
 // Whether the row has just these terms, from the greatest integral to the least.
 fn has_terms(alloc: Global, row: &Row, terms: &[(&[i8], u64)]) -> Result<bool, Wrong> {
@@ -229,6 +180,44 @@ fn ask<'a>(seed: &'a [i8], loop_number: u32, momentum_number: u32, zeros: &'a [u
     }
 }
 
+// Seeds of the bubble, each with the momentum, the zero sectors, and the terms of its equation.
+const BUBBLE: [Wanted; 7] = [
+    (
+        &[1, 1],
+        1,
+        &[],
+        &[(&[1, 2], 5), (&[1, 1], 4), (&[0, 2], 100)],
+    ),
+    (&[1, 1], 1, &[1, 2], &[(&[1, 2], 5), (&[1, 1], 4)]),
+    // the two terms of I(1,1) cancel
+    (
+        &[1, 1],
+        2,
+        &[],
+        &[(&[2, 1], 5), (&[1, 2], 96), (&[0, 2], 1), (&[2, 0], 100)],
+    ),
+    (&[1, 1], 2, &[1, 2], &[(&[2, 1], 5), (&[1, 2], 96)]),
+    (
+        &[2, -1],
+        1,
+        &[],
+        &[(&[2, -1], 4), (&[2, 0], 96), (&[1, 0], 1)],
+    ),
+    (
+        &[100, -100],
+        2,
+        &[],
+        &[
+            (&[101, -101], 1),
+            (&[101, -100], 96),
+            (&[100, -100], 99),
+            (&[100, -99], 96),
+            (&[99, -99], 1),
+        ],
+    ),
+    (&[1, 1], 2, &[3], &[]),
+];
+
 // k1 and k1 + p1, massless, with p1 p1 = 5: the derivative times k1 is 2 D1 and D1 + D2 - 5, that times p1
 // is D2 - D1 - 5 and D2 - D1 + 5.
 #[test]
@@ -238,44 +227,7 @@ fn equations_of_the_bubble(rt: HostRuntime) -> Result<(), Fail> {
     let point = point_of(alloc, &[rule(alloc, &[1], 5)?], 1, &modulus)?;
     let denominators = [square(alloc, &[1, 0], 0)?, square(alloc, &[1, 1], 0)?];
     let basis = basis_of(alloc, 1, &denominators, &point, &modulus)?;
-
-    let rows: [(&[i8], u32, &[u32], &[(&[i8], u64)]); 7] = [
-        (
-            &[1, 1],
-            1,
-            &[],
-            &[(&[1, 2], 5), (&[1, 1], 4), (&[0, 2], 100)],
-        ),
-        (&[1, 1], 1, &[1, 2], &[(&[1, 2], 5), (&[1, 1], 4)]),
-        // the two terms of I(1,1) cancel
-        (
-            &[1, 1],
-            2,
-            &[],
-            &[(&[2, 1], 5), (&[1, 2], 96), (&[0, 2], 1), (&[2, 0], 100)],
-        ),
-        (&[1, 1], 2, &[1, 2], &[(&[2, 1], 5), (&[1, 2], 96)]),
-        (
-            &[2, -1],
-            1,
-            &[],
-            &[(&[2, -1], 4), (&[2, 0], 96), (&[1, 0], 1)],
-        ),
-        (
-            &[100, -100],
-            2,
-            &[],
-            &[
-                (&[101, -101], 1),
-                (&[101, -100], 96),
-                (&[100, -100], 99),
-                (&[100, -99], 96),
-                (&[99, -99], 1),
-            ],
-        ),
-        (&[1, 1], 2, &[3], &[]),
-    ];
-    for (seed, momentum, zeros, terms) in rows {
+    for (seed, momentum, zeros, terms) in BUBBLE {
         assert!(rt;
             gives(
                 alloc,
@@ -288,6 +240,52 @@ fn equations_of_the_bubble(rt: HostRuntime) -> Result<(), Fail> {
     }
     Ok(())
 }
+
+// Seeds of the triangle, as those of the bubble.
+const TRIANGLE: [Wanted; 4] = [
+    (
+        &[1, 1, 1],
+        1,
+        &[],
+        &[
+            (&[1, 1, 2], 5),
+            (&[1, 1, 1], 3),
+            (&[0, 2, 1], 100),
+            (&[0, 1, 2], 100),
+        ],
+    ),
+    (
+        &[1, 1, 1],
+        2,
+        &[],
+        &[
+            (&[1, 1, 2], 96),
+            (&[0, 2, 1], 1),
+            (&[0, 1, 2], 1),
+            (&[2, 0, 1], 100),
+            (&[1, 0, 2], 100),
+        ],
+    ),
+    // sector 4 is zero as a subsector of 5, and so is 1
+    (
+        &[1, 1, 1],
+        3,
+        &[5],
+        &[(&[2, 1, 1], 5), (&[2, 1, 0], 100), (&[1, 2, 0], 100)],
+    ),
+    (
+        &[2, 0, -1],
+        3,
+        &[],
+        &[
+            (&[3, 0, -2], 99),
+            (&[3, -1, -1], 2),
+            (&[3, 0, -1], 10),
+            (&[2, 0, -1], 1),
+            (&[2, -1, 0], 100),
+        ],
+    ),
+];
 
 // k1, k1 + p1 and k1 + p1 + p2, massless, with massless p1 and p2, and (p1 + p2)² = 5.
 #[test]
@@ -306,52 +304,7 @@ fn equations_of_the_triangle(rt: HostRuntime) -> Result<(), Fail> {
         square(alloc, &[1, 1, 1], 0)?,
     ];
     let basis = basis_of(alloc, 1, &denominators, &point, &modulus)?;
-
-    let rows: [(&[i8], u32, &[u32], &[(&[i8], u64)]); 4] = [
-        (
-            &[1, 1, 1],
-            1,
-            &[],
-            &[
-                (&[1, 1, 2], 5),
-                (&[1, 1, 1], 3),
-                (&[0, 2, 1], 100),
-                (&[0, 1, 2], 100),
-            ],
-        ),
-        (
-            &[1, 1, 1],
-            2,
-            &[],
-            &[
-                (&[1, 1, 2], 96),
-                (&[0, 2, 1], 1),
-                (&[0, 1, 2], 1),
-                (&[2, 0, 1], 100),
-                (&[1, 0, 2], 100),
-            ],
-        ),
-        // sector 4 is zero as a subsector of 5, and so is 1
-        (
-            &[1, 1, 1],
-            3,
-            &[5],
-            &[(&[2, 1, 1], 5), (&[2, 1, 0], 100), (&[1, 2, 0], 100)],
-        ),
-        (
-            &[2, 0, -1],
-            3,
-            &[],
-            &[
-                (&[3, 0, -2], 99),
-                (&[3, -1, -1], 2),
-                (&[3, 0, -1], 10),
-                (&[2, 0, -1], 1),
-                (&[2, -1, 0], 100),
-            ],
-        ),
-    ];
-    for (seed, momentum, zeros, terms) in rows {
+    for (seed, momentum, zeros, terms) in TRIANGLE {
         assert!(rt;
             gives(
                 alloc,
@@ -364,6 +317,45 @@ fn equations_of_the_triangle(rt: HostRuntime) -> Result<(), Fail> {
     }
     Ok(())
 }
+
+// Seeds of the vacuum diagram, each with the loop momentum, the momentum and the terms of its equation.
+const VACUUM: [(&[i8], u32, u32, Terms); 3] = [
+    (
+        &[1, 1, 1],
+        1,
+        1,
+        &[
+            (&[2, 1, 1], 95),
+            (&[1, 1, 2], 98),
+            (&[1, 1, 1], 4),
+            (&[0, 1, 2], 100),
+        ],
+    ),
+    (
+        &[1, 1, 1],
+        1,
+        2,
+        &[
+            (&[2, 1, 1], 6),
+            (&[1, 1, 2], 6),
+            (&[0, 1, 2], 2),
+            (&[1, 0, 2], 100),
+            (&[2, 1, 0], 99),
+        ],
+    ),
+    (
+        &[1, 2, -1],
+        2,
+        1,
+        &[
+            (&[1, 3, -2], 97),
+            (&[1, 3, -1], 12),
+            (&[1, 2, 0], 3),
+            (&[0, 3, -1], 4),
+            (&[0, 2, 0], 1),
+        ],
+    ),
+];
 
 // k1 with the squared mass 3, k2, and the bilinear k1 (k1 + k2), without external momenta.
 #[test]
@@ -381,45 +373,7 @@ fn equations_of_a_vacuum_diagram(rt: HostRuntime) -> Result<(), Fail> {
         },
     ];
     let basis = basis_of(alloc, 2, &denominators, &point, &modulus)?;
-
-    let rows: [(&[i8], u32, u32, &[(&[i8], u64)]); 3] = [
-        (
-            &[1, 1, 1],
-            1,
-            1,
-            &[
-                (&[2, 1, 1], 95),
-                (&[1, 1, 2], 98),
-                (&[1, 1, 1], 4),
-                (&[0, 1, 2], 100),
-            ],
-        ),
-        (
-            &[1, 1, 1],
-            1,
-            2,
-            &[
-                (&[2, 1, 1], 6),
-                (&[1, 1, 2], 6),
-                (&[0, 1, 2], 2),
-                (&[1, 0, 2], 100),
-                (&[2, 1, 0], 99),
-            ],
-        ),
-        (
-            &[1, 2, -1],
-            2,
-            1,
-            &[
-                (&[1, 3, -2], 97),
-                (&[1, 3, -1], 12),
-                (&[1, 2, 0], 3),
-                (&[0, 3, -1], 4),
-                (&[0, 2, 0], 1),
-            ],
-        ),
-    ];
-    for (seed, loop_number, momentum, terms) in rows {
+    for (seed, loop_number, momentum, terms) in VACUUM {
         assert!(rt;
             gives(
                 alloc,
@@ -430,5 +384,12 @@ fn equations_of_a_vacuum_diagram(rt: HostRuntime) -> Result<(), Fail> {
             )?
         );
     }
+    Ok(())
+}
+
+#[test]
+fn seeds_are_one_off_the_greatest_index(rt: HostRuntime) -> Result<(), Fail> {
+    assert!(rt; are_seed_indices(&[100, 0, -100]) && are_seed_indices(&[]));
+    assert!(rt; !are_seed_indices(&[0, 101]) && !are_seed_indices(&[-101, 0]));
     Ok(())
 }

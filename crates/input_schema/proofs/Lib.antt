@@ -1,4 +1,3 @@
-pub mod NumberSteps
 pub mod SmallProducts
 pub mod MomentumSteps
 pub mod Steps

@@ -1,5 +1,5 @@
--- Numbers, written in digits without a sign. The project's own.
-use Rattle.std.specs.Prelude.{ℕ, ◌^◌, Bool, if◌then◌else◌, ◌&&◌, nat_le, nat_lt, length, Ok}
+-- Numbers, written in digits, and the sign before them. The project's own.
+use Rattle.std.specs.Prelude.{ℕ, ◌^◌, Bool, false, if◌then◌else◌, ◌&&◌, ◌==◌, nat_le, nat_lt, [], ◌∷◌, length, drop, Ok}
 use Rattle.std.specs.List.{list_all}
 use Rattle.yaml_text.specs.declared.tree.Tree.{Tree}
 use Rattle.yaml_text.specs.Lines.{Bytes}
@@ -12,6 +12,15 @@ use Rattle.input_schema.specs.Nodes.{line_of, scalar}
 -- one digit or more, and nothing else
 abbrev pub is_number : Bytes → Bool
 is_number text = nat_le 1 (length text) && list_all is_digit text
+
+-- the text begins with a minus sign
+abbrev pub is_negative : Bytes → Bool
+is_negative [] = false
+is_negative (b ∷ bs) = b == 45
+
+-- the text without a minus sign at its front
+abbrev pub unsigned : Bytes → Bytes
+unsigned text = drop (if is_negative text then 1 else 0) text
 
 -- the number that a text writes, if it is no wider than 128 bits
 abbrev pub written_number : File → ℕ → Bytes → Outcome ℕ

@@ -20,4 +20,4 @@ pub use maps::{Key, fields, needed, optional};
 pub use momenta::replaced;
 pub use names::{fresh, joined, name, new_name, place_among, reference};
 pub use nodes::{flag, items, list, pair, scalar};
-pub use numbers::{number, wide_number, written_number};
+pub use numbers::{is_negative, is_number, number, unsigned, wide_number, written_number};

@@ -14,12 +14,12 @@ use std::alloc::Global;
 use yaml_text::Tree;
 
 /// The place of the first of these names with this text, counted from 0, if there is one.
-pub fn place_among(names: &[Name], text: &str) -> Option<usize>
+pub fn place_among(names: &[Name], text: &[u8]) -> Option<usize>
     ensures place { MatchOption result (is_among names.now text.now ≡ false) (λ place. (is_among names.now text.now ≡ true) × (place ≡ place_of names.now text.now)) }
     ensures within { IfSome result (λ place. place < length names.now) }
 {
     for i in 0..names.len() {
-        if names[i].as_str().as_bytes() == text.as_bytes() {
+        if names[i].as_str().as_bytes() == text {
             return Some(i);
         }
     }
@@ -61,7 +61,7 @@ pub fn name(alloc: Global, file: File, node: &Tree) -> Result<Name, SchemaError>
 pub fn fresh(file: File, line: u32, declared: &[Name], name: &Name) -> Result<(), SchemaError>
     ensures { Gives (spec.fresh file line declared.now name.now) result }
 {
-    match place_among(declared, name.as_str()) {
+    match place_among(declared, name.as_str().as_bytes()) {
         Some(_) => Err(fault(file, line, InputKind::DuplicateName)),
         None => Ok(()),
     }
@@ -104,7 +104,7 @@ pub fn reference(
     if Name::new(alloc, text)?.is_none() {
         return Err(fault(file, node.line, InputKind::BadName));
     }
-    match place_among(declared, text) {
+    match place_among(declared, text.as_bytes()) {
         Some(place) => Ok(place),
         None => Err(fault(file, node.line, InputKind::UnknownName)),
     }

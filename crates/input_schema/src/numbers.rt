@@ -1,21 +1,15 @@
-//! Numbers, written in digits without a sign.
+//! Numbers, written in digits, and the sign before them.
 
-ghost use Rattle.std.specs.Prelude.{◌≡◌, ◌<◌, ◌^◌};
+ghost use Rattle.std.specs.Prelude.{◌≡◌};
 ghost use Rattle.std.specs.List.{list_all};
-ghost use Rattle.std.specs.Option.{SomeIff};
-ghost use Rattle.kinematics.specs.Tokens.{is_digit, with_digit, number_of};
+ghost use Rattle.kinematics.specs.Tokens.{is_digit};
 ghost use Rattle.input_schema.specs.Numbers as spec;
 ghost use Rattle.input_schema.specs.Readings.{Gives};
 
 use crate::faults::{File, InputKind, SchemaError, fault};
 use crate::nodes::scalar;
+use kinematics::{is_digit, number_value};
 use yaml_text::Tree;
-
-fn is_digit(byte: u8) -> bool
-    ensures { result ≡ is_digit byte }
-{
-    b'0' <= byte && byte <= b'9'
-}
 
 fn are_digits(text: &[u8]) -> bool
     ensures { result ≡ list_all is_digit text.now }
@@ -23,29 +17,28 @@ fn are_digits(text: &[u8]) -> bool
     text.iter().all(|byte| is_digit(*byte))
 }
 
-/// The number with one more digit. None exactly where it is above 2^128 - 1.
-fn with_digit(number: u128, digit: u8) -> Option<u128>
-    ensures { SomeIff result (with_digit number digit < 2 ^ 128) (with_digit number digit) }
+/// Whether the text is digits alone, at least one.
+pub fn is_number(text: &[u8]) -> bool
+    ensures { result ≡ spec.is_number text.now }
 {
-    let units = digit.saturating_sub(b'0') as u128;
-    match number.checked_mul(10) {
-        Some(tens) => tens.checked_add(units),
-        None => None,
+    1 <= text.len() && are_digits(text)
+}
+
+/// Whether the text begins with a minus sign.
+pub fn is_negative(text: &[u8]) -> bool
+    ensures { result ≡ spec.is_negative text.now }
+{
+    match text {
+        [] => false,
+        [first, ..] => *first == b'-',
     }
 }
 
-/// The number that digits write. None exactly where it is above 2^128 - 1.
-fn number_of(digits: &[u8]) -> Option<u128>
-    ensures { SomeIff result (number_of digits.now < 2 ^ 128) (number_of digits.now) }
+/// The text without a minus sign at its front.
+pub fn unsigned(text: &[u8]) -> &[u8]
+    ensures { result.now ≡ spec.unsigned text.now }
 {
-    let mut number = 0;
-    for digit in digits {
-        match with_digit(number, *digit) {
-            Some(longer) => number = longer,
-            None => return None,
-        }
-    }
-    Some(number)
+    if is_negative(text) { &text[1..] } else { text }
 }
 
 /// The number that a text on this line writes in digits alone. Leading zeros are accepted.
@@ -57,10 +50,10 @@ fn number_of(digits: &[u8]) -> Option<u128>
 pub fn written_number(file: File, line: u32, text: &[u8]) -> Result<u128, SchemaError>
     ensures { Gives (spec.written_number file line text.now) result }
 {
-    if text.is_empty() || !are_digits(text) {
+    if !is_number(text) {
         return Err(fault(file, line, InputKind::BadNumber));
     }
-    match number_of(text) {
+    match number_value(text) {
         Some(number) => Ok(number),
         None => Err(fault(file, line, InputKind::NumberTooWide)),
     }

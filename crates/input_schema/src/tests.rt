@@ -1,9 +1,9 @@
 //! Small texts with the values and the faults that the parts of a schema give them, worked out by hand.
 
 use crate::{
-    File, InputFault, InputKind, Key, SchemaError, fields, flag, fresh, items, joined, list,
-    momentum, name, needed, new_name, number, optional, pair, place_among, reference, replaced,
-    scalar, value, wide_number, written_number,
+    File, InputFault, InputKind, Key, SchemaError, fields, flag, fresh, is_negative, is_number,
+    items, joined, list, momentum, name, needed, new_name, number, optional, pair, place_among,
+    reference, replaced, scalar, unsigned, value, wide_number, written_number,
 };
 use kinematics::{Momentum, Name};
 use std::alloc::Global;
@@ -397,6 +397,10 @@ fn reads_numbers(rt: HostRuntime) -> Result<(), Fail> {
         340282366920938463463374607431768211455
     );
     assert_eq!(rt; written_number(File::Words, 2, "042".as_bytes())?, 42);
+    assert!(rt; is_number(b"042") && !is_number(b"") && !is_number(b"4-2"));
+    assert!(rt; is_negative(b"-4") && !is_negative(b"") && !is_negative(b"4-"));
+    assert_eq!(rt; unsigned(b"-4"), b"4".as_slice());
+    assert_eq!(rt; unsigned(b"4-"), b"4-".as_slice());
     Ok(())
 }
 
@@ -422,8 +426,8 @@ fn reads_names(rt: HostRuntime) -> Result<(), Fail> {
         fresh(file, 5, &names, &name),
         Err(SchemaError::Fault(twice))
     );
-    assert_eq!(rt; place_among(&names, "k1"), Some(0));
-    assert_eq!(rt; place_among(&names, "k"), None);
+    assert_eq!(rt; place_among(&names, b"k1"), Some(0));
+    assert_eq!(rt; place_among(&names, b"k"), None);
     let joined = joined(rt.alloc(), &names, &names)?;
     assert_eq!(rt; joined.len(), 4);
     assert_eq!(rt; joined[3].as_str(), "p1");

@@ -1,21 +1,19 @@
 //! Equations modulo 101, worked by hand: those of the one-loop tadpole and bubble, whose lines a symmetry
 //! exchanges, and of a two-loop vacuum diagram; and bounds on terms.
 
-ghost use Rattle.std.specs.Prelude.{◌≡◌, ◌≤◌, ◌<◌, ◌↔◌, All, IsTrue, IfOk, OnOk, length};
+ghost use Rattle.std.specs.Prelude.{◌≡◌, ◌≤◌, ◌<◌, All, IsTrue, IfOk, OnOk, length};
 ghost use Rattle.std.specs.List.{AllZip};
-ghost use Rattle.kinematics.specs.Rules.{IsRule};
-ghost use Rattle.propagators.specs.Denominators.{IsDenominator};
 ghost use Rattle.propagators.specs.Forms.{product_total};
-ghost use Rattle.ibp_generator.specs.Shifts.{IsSeedIndex};
 ghost use Rattle.job_equations.specs.Equations.{AreSymmetriesOf, IsSeedOf};
 ghost use Rattle.job_equations.specs.Bounds.{IsEquationShape};
 
 use super::*;
 use field_word::Modulus;
+use ibp_generator::are_seed_indices;
 use integral_index::{Integral, Order, ZeroSectors, is_index_list};
-use kinematics::{Momentum, Point, Rule, point};
+use kinematics::{Momentum, Point, Rule, are_coefficients, are_wide, point, rules_fit};
 use out_of_memory::OutOfMemory;
-use propagators::{Basis, Denominator, family};
+use propagators::{Basis, Denominator, denominators_fit, family};
 use sparse_row::Row;
 use sqlite_items::Items;
 use std::alloc::{AllocError, AllocFailed, Global};
@@ -55,7 +53,7 @@ impl<T: Drop> From<AllocFailed<T>> for Wrong {
 }
 
 fn momentum(alloc: Global, coefficients: &[i16]) -> Result<Momentum, Wrong> {
-    if !coefficients.iter().all(|c| -1000 <= *c && *c <= 1000) {
+    if !are_coefficients(coefficients) {
         return Err(Wrong::Momentum);
     }
     Ok(Momentum::new(alloc, coefficients)?)
@@ -77,21 +75,6 @@ fn rule(alloc: Global, coefficients: &[i16], value: u64) -> Result<Rule, Wrong> 
     })
 }
 
-fn is_rule(rule: &Rule, externals: u32, modulus: &Modulus) -> bool
-    ensures { IsTrue result → IsRule modulus.now externals rule.now }
-{
-    let size = externals as usize;
-    rule.left.coefficients().len() == size
-        && rule.right.coefficients().len() == size
-        && rule.value < modulus.value()
-}
-
-fn are_rules(rules: &[Rule], externals: u32, modulus: &Modulus) -> bool
-    ensures { IsTrue result → All (IsRule modulus.now externals) rules.now }
-{
-    rules.iter().all(|rule| is_rule(rule, externals, modulus))
-}
-
 fn point_of(
     alloc: Global,
     rules: &[Rule],
@@ -102,36 +85,13 @@ fn point_of(
     ensures modulus { IfOk result (λ point. point.modulus ≡ modulus.now) }
     ensures externals { IfOk result (λ point. point.externals ≡ externals) }
 {
-    if !are_rules(rules, externals, modulus) {
+    if !rules_fit(rules, externals, modulus) {
         return Err(Wrong::Rules);
     }
     match point(alloc, rules, externals, modulus) {
         Ok(found) => Ok(found),
         Err(_) => Err(Wrong::Point),
     }
-}
-
-fn is_denominator(denominator: &Denominator, width: usize, modulus: &Modulus) -> bool
-    ensures { IsTrue result → IsDenominator modulus.now width denominator.now }
-{
-    match denominator {
-        Denominator::Square { momentum, mass } => {
-            momentum.coefficients().len() == width && *mass < modulus.value()
-        }
-        Denominator::Bilinear { left, right, mass } => {
-            left.coefficients().len() == width
-                && right.coefficients().len() == width
-                && *mass < modulus.value()
-        }
-    }
-}
-
-fn are_denominators(denominators: &[Denominator], width: usize, modulus: &Modulus) -> bool
-    ensures { IsTrue result → All (IsDenominator modulus.now width) denominators.now }
-{
-    denominators
-        .iter()
-        .all(|denominator| is_denominator(denominator, width, modulus))
 }
 
 fn basis_of(
@@ -149,7 +109,7 @@ fn basis_of(
     ensures { IfOk result (λ basis. basis.point.modulus ≡ modulus.now) }
 {
     let width = loops as usize + point.externals() as usize;
-    if !are_denominators(denominators, width, modulus) {
+    if !denominators_fit(denominators, width, modulus) {
         return Err(Wrong::Denominators);
     }
     match family(alloc, loops, denominators, point, modulus) {
@@ -192,14 +152,6 @@ fn vacuum(alloc: Global, modulus: &Modulus) -> Result<Basis, Wrong>
     basis_of(alloc, 2, &denominators, &point, modulus)
 }
 
-fn are_wide(images: &[Momentum], width: usize) -> bool
-    ensures { IsTrue result → All (λ image. length image ≡ width) images.now }
-{
-    images
-        .iter()
-        .all(|image| image.coefficients().len() == width)
-}
-
 // A basis, and the symmetry by these images of the loop momenta.
 fn symmetric(
     alloc: Global,
@@ -218,7 +170,7 @@ fn symmetric(
     let width = images.len() + point.externals() as usize;
     let total = loops * (loops + 1) / 2 + loops * point.externals();
     if denominators.len() != total as usize
-        || !are_denominators(denominators, width, modulus)
+        || !denominators_fit(denominators, width, modulus)
         || !are_wide(images, width)
     {
         return Err(Wrong::Denominators);
@@ -271,18 +223,6 @@ fn push_family(
     bases.push(basis)?;
     symmetries.push(found)?;
     Ok(())
-}
-
-fn is_seed_index(index: i8) -> bool
-    ensures { IsTrue result ↔ IsSeedIndex index }
-{
-    index.unsigned_abs() <= 100
-}
-
-fn are_seed_indices(indices: &[i8]) -> bool
-    ensures { IsTrue result ↔ All IsSeedIndex indices.now }
-{
-    indices.iter().all(|index| is_seed_index(*index))
 }
 
 fn is_seed_of(bases: &[Basis], seed: &Integral) -> bool

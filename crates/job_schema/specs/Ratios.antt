@@ -6,18 +6,9 @@ use Rattle.kinematics.specs.Tokens.{is_digit}
 use Rattle.input_schema.specs.declared.faults.File.{File}
 use Rattle.input_schema.specs.declared.faults.InputKind.TheVariants.{BadNumber, BadModulus}
 use Rattle.input_schema.specs.Readings.{Outcome, refuse, ◌>>=◌}
-use Rattle.input_schema.specs.Numbers.{is_number, written_number}
+use Rattle.input_schema.specs.Numbers.{is_negative, is_number, unsigned, written_number}
 use Rattle.job_schema.specs.declared.ratios.Ratio.{Ratio}
 use Rattle.job_schema.specs.declared.ratios.Divisor.{Divisor}
-
--- the text begins with a minus sign
-abbrev pub is_negative : Bytes → Bool
-is_negative [] = false
-is_negative (b ∷ bs) = b == 45
-
--- the text without a minus sign at its front
-abbrev pub unsigned : Bytes → Bytes
-unsigned text = drop (if is_negative text then 1 else 0) text
 
 -- how many digits stand at the front of a text
 abbrev pub front : Bytes → ℕ

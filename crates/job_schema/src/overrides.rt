@@ -9,7 +9,7 @@ ghost use Rattle.job_schema.specs.Overrides as spec;
 use crate::points::{NumericPoint, PointInput, Setting};
 use crate::ratios::{read_prime, read_ratio};
 use field_word::Modulus;
-use input_schema::{File, InputKind, SchemaError, fault};
+use input_schema::{File, InputKind, SchemaError, fault, place_among};
 use kinematics::Name;
 use out_of_memory::OutOfMemory;
 use sqlite_items::Items;
@@ -97,19 +97,6 @@ fn is_repeated(earlier: &[Override], name: &[u8]) -> bool
         }
     }
     false
-}
-
-/// The place of the first of these names with this text, counted from 0, if there is one.
-fn place_among(names: &[Name], text: &[u8]) -> Option<usize>
-    ensures place { MatchOption result (is_among names.now text.now ≡ false) (λ place. (is_among names.now text.now ≡ true) × (place ≡ place_of names.now text.now)) }
-    ensures within { IfSome result (λ place. place < length names.now) }
-{
-    for i in 0..names.len() {
-        if names[i].as_str().as_bytes() == text {
-            return Some(i);
-        }
-    }
-    None
 }
 
 /// The point with the value of a word for the parameter at this place.

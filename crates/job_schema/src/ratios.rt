@@ -1,14 +1,14 @@
 //! The numbers of a numeric point: the prime, and ratios of whole numbers.
 
 ghost use Rattle.std.specs.Prelude.{◌≡◌, ◌<◌, ◌≤◌, ◌+◌, ◌^◌, length};
-ghost use Rattle.std.specs.List.{list_all};
-ghost use Rattle.kinematics.specs.Tokens.{is_digit};
 ghost use Rattle.input_schema.specs.Readings.{Gives};
-ghost use Rattle.input_schema.specs.Numbers.{is_number};
 ghost use Rattle.job_schema.specs.Ratios as spec;
 
 use field_word::Modulus;
-use input_schema::{File, InputKind, SchemaError, fault, written_number};
+use input_schema::{
+    File, InputKind, SchemaError, fault, is_negative, is_number, unsigned, written_number,
+};
+use kinematics::is_digit;
 
 /// A divisor, and the offset of its slash in the text.
 #[derive(Clone, Copy, Debug, PartialEq, Eq, Drop)]
@@ -31,12 +31,6 @@ pub struct Ratio {
     pub divisor: Option<Divisor>,
 }
 
-fn is_digit(byte: u8) -> bool
-    ensures { result ≡ is_digit byte }
-{
-    b'0' <= byte && byte <= b'9'
-}
-
 /// How many digits stand at the front of a text.
 fn front(text: &[u8]) -> usize
     ensures value { result ≡ spec.front text.now }
@@ -47,19 +41,6 @@ fn front(text: &[u8]) -> usize
         at += 1;
     }
     at
-}
-
-fn are_digits(text: &[u8]) -> bool
-    ensures { result ≡ list_all is_digit text.now }
-{
-    text.iter().all(|byte| is_digit(*byte))
-}
-
-/// Whether the text is digits alone, at least one.
-fn is_number(text: &[u8]) -> bool
-    ensures { result ≡ is_number text.now }
-{
-    1 <= text.len() && are_digits(text)
 }
 
 /// Whether the text is empty, or a slash and digits.
@@ -78,15 +59,6 @@ fn is_ratio(body: &[u8]) -> bool
 {
     let digits = front(body);
     1 <= digits && is_division(&body[digits..])
-}
-
-fn is_negative(text: &[u8]) -> bool
-    ensures { result ≡ spec.is_negative text.now }
-{
-    match text {
-        [] => false,
-        [first, ..] => *first == b'-',
-    }
 }
 
 /// The divisor that a text writes, where it isn't empty. `at` is the offset of its slash.
@@ -136,11 +108,8 @@ pub fn read_ratio(file: File, line: u32, text: &[u8]) -> Result<Ratio, SchemaErr
     requires { length text.now < 2 ^ 32 }
     ensures { Gives (spec.ratio file line text.now) result }
 {
-    if is_negative(text) {
-        ratio_in(file, line, true, 1, &text[1..])
-    } else {
-        ratio_in(file, line, false, 0, text)
-    }
+    let offset = if is_negative(text) { 1 } else { 0 };
+    ratio_in(file, line, is_negative(text), offset, unsigned(text))
 }
 
 /// The prime that a text on this line writes in digits alone: an odd number from 3 on and below 2^63,

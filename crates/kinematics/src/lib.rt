@@ -22,12 +22,14 @@ pub use laws::{
     printed_momentum_reads_back, readings_are_unique, refused_rules_have_no_point,
     values_are_unique,
 };
-pub use momenta::Momentum;
+pub use momenta::{Momentum, are_coefficients, are_wide};
 pub use momentum_reader::read_momentum;
-pub use names::Name;
+pub use names::{Name, is_name};
+pub use numbers::number_value;
 pub use points::Point;
 pub use rule_rows::residue;
-pub use rules::{PointFault, Rule, point};
+pub use rules::{PointFault, Rule, point, rules_fit};
+pub use tokens::{is_digit, is_name_byte};
 pub use value_reader::read_value;
 
 #[cfg(test)]

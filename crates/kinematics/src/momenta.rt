@@ -1,6 +1,6 @@
 //! Momenta: sums of named momenta with whole coefficients.
 
-ghost use Rattle.std.specs.Prelude.{◌≡◌, All, IfOk};
+ghost use Rattle.std.specs.Prelude.{◌≡◌, ◌↔◌, All, IsTrue, IfOk, length};
 ghost use Rattle.kinematics.specs.Momenta.{IsCoefficient};
 
 use out_of_memory::OutOfMemory;
@@ -50,4 +50,26 @@ impl Momentum {
     {
         self.coefficients.as_slice()
     }
+}
+
+/// Whether each of the momenta has this many coefficients.
+pub fn are_wide(momenta: &[Momentum], width: usize) -> bool
+    ensures { IsTrue result ↔ All (λ momentum. length momentum ≡ width) momenta.now }
+{
+    momenta
+        .iter()
+        .all(|momentum| momentum.coefficients().len() == width)
+}
+
+/// Whether a momentum may have these coefficients: each is from -1000 to 1000.
+pub fn are_coefficients(coefficients: &[i16]) -> bool
+    ensures { IsTrue result ↔ All IsCoefficient coefficients.now }
+{
+    coefficients.iter().all(|c| is_coefficient(*c))
+}
+
+fn is_coefficient(c: i16) -> bool
+    ensures { IsTrue result ↔ IsCoefficient c }
+{
+    -1000 <= c && c <= 1000
 }

@@ -35,7 +35,8 @@ fn are_name_bytes(bytes: &[u8]) -> bool
     bytes.iter().all(|byte| is_name_byte(*byte))
 }
 
-fn is_name(bytes: &[u8]) -> bool
+/// Whether the bytes are a name: 1 to 32 of them, a letter and then letters, digits or `_`.
+pub fn is_name(bytes: &[u8]) -> bool
     ensures { result ≡ is_name bytes.now }
 {
     1 <= bytes.len() && bytes.len() <= 32 && is_letter(bytes[0]) && are_name_bytes(bytes)

@@ -1,18 +1,13 @@
 //! Points worked by hand: the massless triangle and box, and rules that have none.
 
-ghost use Rattle.std.specs.Prelude.{All, IsTrue};
-ghost use Rattle.kinematics.specs.Rules.{IsRule};
-
 use super::*;
 use field_word::{Composite, Modulus};
 use std::alloc::Global;
 use std::test::Fail;
 
 fn momentum(alloc: Global, coefficients: &[i16]) -> Result<Momentum, Fail> {
-    for place in 0..coefficients.len() {
-        if coefficients[place] < -1000 || 1000 < coefficients[place] {
-            return Err("a coefficient is out of range")?;
-        }
+    if !are_coefficients(coefficients) {
+        return Err("a coefficient is out of range")?;
     }
     Ok(Momentum::new(alloc, coefficients)?)
 }
@@ -31,26 +26,6 @@ fn add(
     Ok(())
 }
 
-fn is_rule(rule: &Rule, externals: u32, modulus: &Modulus) -> bool
-    ensures { IsTrue result → IsRule modulus.now externals rule.now }
-{
-    let size = externals as usize;
-    rule.left.coefficients().len() == size
-        && rule.right.coefficients().len() == size
-        && rule.value < modulus.value()
-}
-
-fn are_rules(rules: &[Rule], externals: u32, modulus: &Modulus) -> bool
-    ensures { IsTrue result → All (IsRule modulus.now externals) rules.now }
-{
-    for place in 0..rules.len() {
-        if !is_rule(&rules[place], externals, modulus) {
-            return false;
-        }
-    }
-    true
-}
-
 // The products of the point in the order of the tables, or the fault.
 fn point_of(
     alloc: Global,
@@ -59,7 +34,7 @@ fn point_of(
     p: u64,
 ) -> Result<Result<Vec<u64>, PointFault>, Fail> {
     let modulus = Modulus::new(p)?;
-    if externals > 6 || !are_rules(rules, externals, &modulus) {
+    if externals > 6 || !rules_fit(rules, externals, &modulus) {
         return Err("not such rules")?;
     }
     match point(alloc, rules, externals, &modulus) {
@@ -256,5 +231,39 @@ fn gives_residues_of_whole_numbers(rt: HostRuntime) -> Result<(), Fail> {
     ] {
         assert_eq!(rt; residue(number, &modulus), value, "{number}");
     }
+    Ok(())
+}
+
+#[test]
+fn tells_which_rules_a_point_takes(rt: HostRuntime) -> Result<(), Fail> {
+    let alloc = rt.alloc();
+    let modulus = Modulus::new(101)?;
+    let mut rules = Vec::new(alloc);
+    add(alloc, &mut rules, &[1, 0], &[0, 1], 100)?;
+    assert!(rt; rules_fit(&rules, 2, &modulus));
+    assert!(rt; !rules_fit(&rules, 1, &modulus) && !rules_fit(&rules, 3, &modulus));
+    for (left, right, value) in [
+        ([1, 0].as_slice(), [0, 1].as_slice(), 101),
+        (&[1], &[0, 1], 0),
+        (&[1, 0], &[1], 0),
+    ] {
+        let mut rules = Vec::new(alloc);
+        add(alloc, &mut rules, &[1, 0], &[1, 0], 0)?;
+        add(alloc, &mut rules, left, right, value)?;
+        assert!(rt; !rules_fit(&rules, 2, &modulus), "{value}");
+    }
+    Ok(())
+}
+
+#[test]
+fn tells_which_momenta_there_are(rt: HostRuntime) -> Result<(), Fail> {
+    assert!(rt; are_coefficients(&[1000, 0, -1000]) && are_coefficients(&[]));
+    assert!(rt; !are_coefficients(&[0, 1001]) && !are_coefficients(&[-1001, 0]));
+    let momenta = [
+        momentum(rt.alloc(), &[1, 0])?,
+        momentum(rt.alloc(), &[0, 1])?,
+    ];
+    assert!(rt; are_wide(&momenta, 2) && are_wide(&[], 7));
+    assert!(rt; !are_wide(&momenta, 1) && !are_wide(&momenta, 3));
     Ok(())
 }

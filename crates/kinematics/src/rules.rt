@@ -1,6 +1,6 @@
 //! Kinematic rules, and the point that meets them.
 
-ghost use Rattle.std.specs.Prelude.{◌≡◌, ◌≤◌, All, IfOk, IfErr};
+ghost use Rattle.std.specs.Prelude.{◌≡◌, ◌↔◌, ◌≤◌, All, IsTrue, IfOk, IfErr};
 ghost use Rattle.kinematics.specs.Rules.{IsRule, IsPointOf, HasPointCause};
 
 use crate::momenta::Momentum;
@@ -23,6 +23,26 @@ pub struct Rule {
     pub right: Momentum,
     /// The residue of their product.
     pub value: u64,
+}
+
+impl Rule {
+    /// Whether `point` takes the rule: its sums have a coefficient for each of the external momenta, and
+    /// its value is a residue.
+    pub fn fits(&self, externals: u32, modulus: &Modulus) -> bool
+        ensures { IsTrue result ↔ IsRule modulus.now externals self.now }
+    {
+        let size = externals as usize;
+        self.left.coefficients().len() == size
+            && self.right.coefficients().len() == size
+            && self.value < modulus.value()
+    }
+}
+
+/// Whether `point` takes each of the rules.
+pub fn rules_fit(rules: &[Rule], externals: u32, modulus: &Modulus) -> bool
+    ensures { IsTrue result ↔ All (IsRule modulus.now externals) rules.now }
+{
+    rules.iter().all(|rule| rule.fits(externals, modulus))
 }
 
 /// Why rules have no point, or why none was found.

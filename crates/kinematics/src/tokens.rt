@@ -27,18 +27,21 @@ pub struct Piece {
     pub kind: Kind,
 }
 
+/// Whether the byte is a decimal digit.
 pub fn is_digit(byte: u8) -> bool
     ensures { result ≡ is_digit byte }
 {
     b'0' <= byte && byte <= b'9'
 }
 
+/// Whether the byte is a letter of ASCII.
 pub fn is_letter(byte: u8) -> bool
     ensures { result ≡ is_letter byte }
 {
     (b'A' <= byte && byte <= b'Z') || (b'a' <= byte && byte <= b'z')
 }
 
+/// Whether the byte may stand in a name behind its first: a letter, a digit or `_`.
 pub fn is_name_byte(byte: u8) -> bool
     ensures { result ≡ is_name_byte byte }
 {

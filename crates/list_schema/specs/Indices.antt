@@ -7,7 +7,7 @@ use Rattle.kinematics.specs.Tokens.{number_of}
 use Rattle.input_schema.specs.declared.faults.File.{File}
 use Rattle.input_schema.specs.declared.faults.InputKind.TheVariants.{OutOfRange}
 use Rattle.input_schema.specs.Readings.{Outcome, refuse}
-use Rattle.input_schema.specs.Numbers.{is_number}
+use Rattle.input_schema.specs.Numbers.{is_negative, is_number, unsigned}
 use Rattle.list_schema.specs.Readings.{each}
 
 -- What stands between the commas, of which each ends a piece: a text without a comma is one piece.
@@ -18,15 +18,6 @@ pieces (b ∷ bs) = if b == 44 then [] ∷ pieces bs else onto_first b (pieces b
 -- without the spaces around it
 abbrev pub trim : Bytes → Bytes
 trim text = trim_end (skip text)
-
--- the text begins with a minus sign
-abbrev pub is_negative : Bytes → Bool
-is_negative [] = false
-is_negative (b ∷ bs) = b == 45
-
--- the text without a minus sign at its front
-abbrev pub unsigned : Bytes → Bytes
-unsigned text = drop (if is_negative text then 1 else 0) text
 
 -- digits, and a minus sign or nothing directly before them, with spaces around
 abbrev pub is_index : Bytes → Bool

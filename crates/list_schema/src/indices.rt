@@ -3,20 +3,19 @@
 ghost use Rattle.std.specs.Prelude.{◌≡◌, ◌≤◌, ◌<◌, [], ◌∷◌, true, false, ◌^◌, length, All, IfOk};
 ghost use Rattle.std.specs.List.{list_all};
 ghost use Rattle.std.specs.Option.{SomeIff};
-ghost use Rattle.kinematics.specs.Tokens.{with_digit, number_of, is_digit};
-ghost use Rattle.input_schema.specs.Numbers.{is_number};
+ghost use Rattle.kinematics.specs.Tokens.{number_of};
 ghost use Rattle.input_schema.specs.Readings.{Gives};
 ghost use Rattle.integral_index.specs.Integral.{IsIndex};
 ghost use Rattle.list_schema.specs.Indices as spec;
 
-use crate::names::is_digit;
-use input_schema::{File, InputKind, SchemaError, fault};
+use input_schema::{File, InputKind, SchemaError, fault, is_negative, is_number, unsigned};
+use kinematics::number_value;
 use sqlite_items::Items;
 use std::alloc::Global;
 use yaml_text::{skip, trim_end};
 
 // The greatest index, and the greatest that an index is below zero.
-const MOST: u32 = 101;
+const MOST: u128 = 101;
 
 /// The place of the first comma, or the text's length.
 fn piece_length(text: &[u8]) -> usize
@@ -64,35 +63,6 @@ fn trim(text: &[u8]) -> &[u8]
     trim_end(skip(text))
 }
 
-fn are_digits(text: &[u8]) -> bool
-    ensures { result ≡ list_all is_digit text.now }
-{
-    text.iter().all(|byte| is_digit(*byte))
-}
-
-/// Whether the text is digits alone, at least one.
-fn is_number(text: &[u8]) -> bool
-    ensures { result ≡ is_number text.now }
-{
-    1 <= text.len() && are_digits(text)
-}
-
-fn is_negative(text: &[u8]) -> bool
-    ensures { result ≡ spec.is_negative text.now }
-{
-    match text {
-        [] => false,
-        [first, ..] => *first == b'-',
-    }
-}
-
-/// The text without a minus sign at its front.
-fn unsigned(text: &[u8]) -> &[u8]
-    ensures { result.now ≡ spec.unsigned text.now }
-{
-    if is_negative(text) { &text[1..] } else { text }
-}
-
 /// Whether a piece is digits, and a minus sign or nothing before them, with spaces around.
 fn is_index(piece: &[u8]) -> bool
     ensures { result ≡ spec.is_index piece.now }
@@ -117,31 +87,18 @@ pub(crate) fn are_indices(text: &[u8]) -> bool
     }
 }
 
-/// The number with one more digit. None exactly where it is above 101.
-fn with_digit(number: u32, digit: u8) -> Option<u32>
-    requires { number ≤ 101 }
-    ensures { SomeIff result (with_digit number digit ≤ 101) (with_digit number digit) }
-{
-    let longer = number * 10 + u32::from(digit.saturating_sub(b'0'));
-    if longer <= MOST { Some(longer) } else { None }
-}
-
 /// The number that digits write. None exactly where it is above 101.
-fn small_number(digits: &[u8]) -> Option<u32>
+fn small_number(digits: &[u8]) -> Option<u8>
     ensures { SomeIff result (number_of digits.now ≤ 101) (number_of digits.now) }
 {
-    let mut number = 0;
-    for digit in digits {
-        match with_digit(number, *digit) {
-            Some(longer) => number = longer,
-            None => return None,
-        }
+    match number_value(digits) {
+        Some(number) if number <= MOST => Some(number as u8),
+        _ => None,
     }
-    Some(number)
 }
 
 /// This number, or minus it.
-fn signed(is_negative: bool, number: u32) -> i8
+fn signed(is_negative: bool, number: u8) -> i8
     requires { number ≤ 101 }
     ensures value { result ≡ spec.signed is_negative number }
     ensures small { IsIndex result }

@@ -1,45 +1,11 @@
 //! The parts of a line: the name of a family, and what stands between brackets behind it.
 
 ghost use Rattle.std.specs.Prelude.{◌≡◌, ◌≤◌, true, length};
-ghost use Rattle.std.specs.List.{list_all};
-ghost use Rattle.kinematics.specs.Names.{is_name};
-ghost use Rattle.kinematics.specs.Tokens.{is_digit, is_letter, is_name_byte};
 ghost use Rattle.list_schema.specs.Lists as spec;
 
 use crate::indices::are_indices;
+use kinematics::{is_name, is_name_byte};
 use yaml_text::skip;
-
-const LONGEST_NAME: usize = 32;
-
-pub(crate) fn is_digit(byte: u8) -> bool
-    ensures { result ≡ is_digit byte }
-{
-    b'0' <= byte && byte <= b'9'
-}
-
-fn is_letter(byte: u8) -> bool
-    ensures { result ≡ is_letter byte }
-{
-    (b'A' <= byte && byte <= b'Z') || (b'a' <= byte && byte <= b'z')
-}
-
-fn is_name_byte(byte: u8) -> bool
-    ensures { result ≡ is_name_byte byte }
-{
-    is_letter(byte) || is_digit(byte) || byte == b'_'
-}
-
-fn are_name_bytes(bytes: &[u8]) -> bool
-    ensures { result ≡ list_all is_name_byte bytes.now }
-{
-    bytes.iter().all(|byte| is_name_byte(*byte))
-}
-
-fn is_name(bytes: &[u8]) -> bool
-    ensures { result ≡ is_name bytes.now }
-{
-    1 <= bytes.len() && bytes.len() <= LONGEST_NAME && is_letter(bytes[0]) && are_name_bytes(bytes)
-}
 
 /// How many letters, digits and `_` stand at the front of a text.
 fn name_length(text: &[u8]) -> usize

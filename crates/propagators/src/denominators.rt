@@ -1,6 +1,6 @@
 //! Denominators and their forms.
 
-ghost use Rattle.std.specs.Prelude.{◌≡◌, ◌+◌, All, IfOk, length};
+ghost use Rattle.std.specs.Prelude.{◌≡◌, ◌↔◌, ◌+◌, All, IsTrue, IfOk, length};
 ghost use Rattle.propagators.specs.Denominators.{form_of, image_of, IsDenominator};
 ghost use Rattle.propagators.specs.Forms.{IsForm};
 
@@ -34,6 +34,23 @@ pub enum Denominator {
 }
 
 impl Denominator {
+    /// Whether its momenta have this many coefficients, as many as there are loop momenta and independent
+    /// external ones, and its squared mass is a residue.
+    pub fn fits(&self, width: usize, modulus: &Modulus) -> bool
+        ensures { IsTrue result ↔ IsDenominator modulus.now width self.now }
+    {
+        match self {
+            Denominator::Square { momentum, mass } => {
+                momentum.coefficients().len() == width && *mass < modulus.value()
+            }
+            Denominator::Bilinear { left, right, mass } => {
+                left.coefficients().len() == width
+                    && right.coefficients().len() == width
+                    && *mass < modulus.value()
+            }
+        }
+    }
+
     /// The same denominator.
     pub(crate) fn copy(&self, alloc: Global) -> Result<Denominator, OutOfMemory>
         ensures { IfOk result (λ denominator. denominator ≡ self.now) }
@@ -50,6 +67,15 @@ impl Denominator {
             },
         })
     }
+}
+
+/// Whether each of the denominators fits this width and modulus.
+pub fn denominators_fit(denominators: &[Denominator], width: usize, modulus: &Modulus) -> bool
+    ensures { IsTrue result ↔ All (IsDenominator modulus.now width) denominators.now }
+{
+    denominators
+        .iter()
+        .all(|denominator| denominator.fits(width, modulus))
 }
 
 /// The form of the denominator.

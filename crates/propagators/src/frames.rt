@@ -202,8 +202,8 @@ impl Frame {
     }
 }
 
-// The forms of the denominators.
-fn forms(
+/// The forms of the denominators in the scalar products at a point, modulo its p.
+pub fn forms(
     alloc: Global,
     loops: u32,
     denominators: &[Denominator],

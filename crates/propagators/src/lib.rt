@@ -14,9 +14,10 @@ mod residue_lists;
 
 pub use bases::{Basis, family};
 pub use combinations::Combination;
-pub use denominators::{Denominator, form, image};
+pub use denominators::{Denominator, denominators_fit, form, image};
 pub use faults::BasisFault;
 pub use forms::{Form, product};
+pub use frames::forms;
 
 #[cfg(test)]
 mod tests;

@@ -1,39 +1,19 @@
-ghost use Rattle.std.specs.Prelude.{◌≡◌, ◌+◌, ◌≤◌, All, IfOk, length};
-ghost use Rattle.std.specs.Bool.{OnTrue};
-ghost use Rattle.kinematics.specs.Momenta.{IsCoefficient};
-ghost use Rattle.kinematics.specs.Rules.{IsRule};
-ghost use Rattle.propagators.specs.Denominators.{IsDenominator};
+ghost use Rattle.std.specs.Prelude.{◌≡◌, IfOk};
 
 use super::*;
 use field_word::{Composite, Modulus};
-use kinematics::{Momentum, Point, PointFault, Rule, point, residue};
+use kinematics::{
+    Momentum, Point, PointFault, Rule, are_coefficients, are_wide, point, residue, rules_fit,
+};
 use out_of_memory::OutOfMemory;
 use std::alloc::Global;
 use std::test::Fail;
-
-// Whether a momentum may have this coefficient.
-fn is_small(coefficient: &i16) -> bool
-    ensures { OnTrue result (IsCoefficient coefficient.now) }
-{
-    *coefficient >= -1000 && *coefficient <= 1000
-}
-
-fn are_small(coefficients: &[i16]) -> bool
-    ensures { OnTrue result (All IsCoefficient coefficients.now) }
-{
-    for coefficient in coefficients {
-        if !is_small(coefficient) {
-            return false;
-        }
-    }
-    true
-}
 
 // The momentum with these coefficients.
 fn momentum(alloc: Global, coefficients: &[i16]) -> Result<Momentum, OutOfMemory>
     ensures { IfOk result (λ m. m ≡ coefficients.now) }
 {
-    if are_small(coefficients) {
+    if are_coefficients(coefficients) {
         Momentum::new(alloc, coefficients)
     } else {
         Err(OutOfMemory)
@@ -56,71 +36,6 @@ fn bilinear(
     Ok(Denominator::Bilinear { left, right, mass })
 }
 
-// Whether the momenta have this many coefficients, and the mass is a residue.
-fn fits(denominator: &Denominator, width: usize, modulus: &Modulus) -> bool
-    ensures { OnTrue result (IsDenominator modulus.now width denominator.now) }
-{
-    match denominator {
-        Denominator::Square { momentum, mass } => {
-            momentum.coefficients().len() == width && *mass < modulus.value()
-        }
-        Denominator::Bilinear { left, right, mass } => {
-            left.coefficients().len() == width
-                && right.coefficients().len() == width
-                && *mass < modulus.value()
-        }
-    }
-}
-
-fn all_fit(denominators: &[Denominator], width: usize, modulus: &Modulus) -> bool
-    ensures { OnTrue result (All (IsDenominator modulus.now width) denominators.now) }
-{
-    for denominator in denominators {
-        if !fits(denominator, width, modulus) {
-            return false;
-        }
-    }
-    true
-}
-
-// Whether the momentum has this many coefficients.
-fn is_wide(momentum: &Momentum, width: usize) -> bool
-    ensures { OnTrue result (length momentum.now ≡ width) }
-{
-    momentum.coefficients().len() == width
-}
-
-fn all_wide(momenta: &[Momentum], width: usize) -> bool
-    ensures { OnTrue result (All (λ momentum. length momentum ≡ width) momenta.now) }
-{
-    for momentum in momenta {
-        if !is_wide(momentum, width) {
-            return false;
-        }
-    }
-    true
-}
-
-fn is_rule(rule: &Rule, externals: u32, modulus: &Modulus) -> bool
-    ensures { OnTrue result (IsRule modulus.now externals rule.now) }
-{
-    let width = externals as usize;
-    rule.left.coefficients().len() == width
-        && rule.right.coefficients().len() == width
-        && rule.value < modulus.value()
-}
-
-fn are_rules(rules: &[Rule], externals: u32, modulus: &Modulus) -> bool
-    ensures { OnTrue result (All (IsRule modulus.now externals) rules.now) }
-{
-    for rule in rules {
-        if !is_rule(rule, externals, modulus) {
-            return false;
-        }
-    }
-    true
-}
-
 // The rule that the square of a sum of external momenta has this value.
 fn rule(alloc: Global, coefficients: &[i16], value: u64) -> Result<Rule, OutOfMemory> {
     Ok(Rule {
@@ -138,7 +53,7 @@ fn point_of(
 ) -> Result<Point, PointFault>
     ensures { IfOk result (λ point. point.modulus ≡ modulus.now) }
 {
-    if externals <= 6 && are_rules(rules, externals, modulus) {
+    if externals <= 6 && rules_fit(rules, externals, modulus) {
         point(alloc, rules, externals, modulus)
     } else {
         Err(PointFault::OutOfMemory)
@@ -168,7 +83,7 @@ fn family_of(
         return Err(BasisFault::OutOfMemory);
     }
     let total = loops * (loops + 1) / 2 + loops * point.externals();
-    if denominators.len() != total as usize || !all_fit(denominators, momenta, modulus) {
+    if denominators.len() != total as usize || !denominators_fit(denominators, momenta, modulus) {
         return Err(BasisFault::OutOfMemory);
     }
     family(alloc, loops, denominators, point, modulus)
@@ -388,7 +303,7 @@ fn form_of(
     ensures externals { IfOk result (λ form. form.externals ≡ point.now.externals) }
 {
     let momenta = 1 + point.externals() as usize;
-    if fits(denominator, momenta, modulus) {
+    if denominator.fits(momenta, modulus) {
         form(alloc, denominator, 1, point, modulus)
     } else {
         Err(OutOfMemory)
@@ -408,7 +323,7 @@ fn image_of(
 {
     let momenta = 1 + point.externals() as usize;
     let images = [image_of_loop];
-    if fits(denominator, momenta, modulus) && all_wide(&images, momenta) {
+    if denominator.fits(momenta, modulus) && are_wide(&images, momenta) {
         image(alloc, denominator, &images, 1, point, modulus)
     } else {
         Err(OutOfMemory)
@@ -464,7 +379,7 @@ fn bubble_values(alloc: Global, point: &Point, modulus: &Modulus) -> Result<Vec<
     requires { point.now.modulus ≡ modulus.now }
 {
     let denominators = [square(alloc, &[1, 0], 0)?, square(alloc, &[1, 1], 0)?];
-    if point.externals() != 1 || !all_fit(&denominators, 2, modulus) {
+    if point.externals() != 1 || !denominators_fit(&denominators, 2, modulus) {
         return Ok(Vec::new(alloc));
     }
     let basis = family(alloc, 1, &denominators, point, modulus)?;
@@ -473,4 +388,21 @@ fn bubble_values(alloc: Global, point: &Point, modulus: &Modulus) -> Result<Vec<
     let form = product(alloc, &left, &right, 1, point, modulus)?;
     let combination = basis.in_denominators(alloc, &form)?;
     Ok(Vec::from_slice(alloc, combination.values())?)
+}
+
+#[test]
+fn tells_which_denominators_a_family_takes(rt: HostRuntime) -> Result<(), Fail> {
+    let alloc = rt.alloc();
+    let p = Modulus::new(101)?;
+    let denominators = [
+        square(alloc, &[1, 0], 100)?,
+        bilinear(alloc, &[1, 0], &[0, 1], 100)?,
+    ];
+    assert!(rt; denominators_fit(&denominators, 2, &p));
+    assert!(rt; !denominators_fit(&denominators, 1, &p) && !denominators_fit(&denominators, 3, &p));
+    assert!(rt; !square(alloc, &[1, 0], 101)?.fits(2, &p));
+    assert!(rt; !bilinear(alloc, &[1, 0], &[0, 1], 101)?.fits(2, &p));
+    assert!(rt; !bilinear(alloc, &[1], &[0, 1], 0)?.fits(2, &p));
+    assert!(rt; !bilinear(alloc, &[1, 0], &[1], 0)?.fits(2, &p));
+    Ok(())
 }

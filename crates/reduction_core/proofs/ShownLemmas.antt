@@ -1,12 +1,12 @@
 -- The integrals that rows show, gathered and sorted.
-use Rattle.std.proofs.Common.{◌≡◌, ◌↔◌, ◌⊎◌, inl, inr, ℕ, ◌+◌, ◌<◌, ◌≤◌, List, [], ◌∷◌, ◌++◌, length, get_or, take, Contains, sym, ap, subst, ◌∙◌, arith}
+use Rattle.std.proofs.Common.{◌≡◌, ◌↔◌, ◌⊎◌, inl, inr, ℕ, ◌+◌, ◌<◌, ◌≤◌, List, [], ◌∷◌, ◌++◌, length, get_or, map, take, Contains, sym, ap, subst, ◌∙◌, arith}
 use Rattle.std.specs.List.Sorted.{IsSorted, IsNonDecreasingBy, IsPartitionPoint}
 use Rattle.std.specs.Ordering.{ordering_index}
 use Rattle.std.specs.declared.cmp.Ordering.TheVariants.{Less, Equal, Greater}
 use Rattle.std.proofs.lemmas.Bool.{cases_lt}
 use Rattle.std.proofs.lemmas.Cmp.{tied_itself}
-use Rattle.std.proofs.lemmas.List.{take_more}
-use Rattle.std.proofs.lemmas.List.Elements.{Contains-append_left, Contains-push, Contains-push_cases}
+use Rattle.std.proofs.lemmas.List.{get_or-map, length-map, take_more}
+use Rattle.std.proofs.lemmas.List.Elements.{Contains-append_left, Contains-append_right, Contains-append_cases, Contains-push, Contains-push_cases}
 use Rattle.std.proofs.lemmas.List.Sorted.{searchable_from_sorted}
 use Rattle.integral_index.specs.declared.Order.{Order}
 use Rattle.integral_index.specs.Integral.{Integral}
@@ -14,69 +14,40 @@ use Rattle.integral_index.specs.Order.{compare}
 use Rattle.integral_index.proofs.Orders.{compare-total, compare-IsAntisymmetric}
 use Rattle.sparse_row.specs.declared.Term.{Term}
 use Rattle.sparse_row.specs.Row.{Row, coefficient, Shows}
-use Rattle.sparse_row.specs.Terms.{IsTermList, total_at}
+use Rattle.sparse_row.specs.Terms.{ArePushed, total_at}
 use Rattle.sparse_row.proofs.RowValues.{total_at-place}
 use Rattle.sparse_row.proofs.TermLists.{Descends-from_pairs}
 use Rattle.sector_forward.specs.Elimination.{IsShownBySome}
 use Rattle.sector_forward.proofs.Shown.{term_of_shown}
-use Rattle.sector_forward.proofs.StepLemmas.{same_at}
 use Rattle.sector_machine.proofs.Lists.{Contains-none}
 use Rattle.reduction_core.specs.Shown.{HasGained}
 
 -- ---- the integrals of a row
 
--- one of the first n terms is of the integral
-abbrev pub IsTermBefore : List Term → ℕ → Integral → Type 0
-IsTermBefore terms n x = (k : ℕ) × (k < n) × ((d : Term) → (get_or terms k d).integral ≡ x)
-
--- the integrals of the first n terms came to the others
-abbrev pub HasGainedBefore : List Term → ℕ → List Integral → List Integral → Type 0
-HasGainedBefore terms n old now = (x : Integral) → Contains now x ↔ (Contains old x ⊎ IsTermBefore terms n x)
-
-pub gained_none : (terms : List Term) (old : List Integral) → HasGainedBefore terms 0 old old
-gained_none terms old x = (λ member. inl member, λ either. elim either [ inl member ↦ member | inr (k, h, is) ↦ absurd (omega arith) ])
-
-pub gained_more : (terms : List Term) (n : ℕ) (term : Term) (old now : List Integral) → n < length terms → term ≡ get_or terms n term → HasGainedBefore terms n old now → HasGainedBefore terms (n + 1) old (now ++ term.integral ∷ [])
-gained_more terms n term old now within read before x =
-    let here : (d : Term) → (get_or terms n d).integral ≡ term.integral = λ d. ap (λ t. t.integral) (same_at terms n d term within ∙ sym read) in
-    let later : IsTermBefore terms n x → IsTermBefore terms (n + 1) x = λ (k, h, is). (k, omega arith, is) in (
+-- the integrals of a row came to the others
+pub gained_row : (row : Row) (old now : List Integral) → ArePushed row old now → HasGained row old now
+gained_row row old now pushed x =
+    let terms = pushed.terms in
+    let integrals = map (λ (term : Term). term.integral) terms in
+    let size : length integrals ≡ length terms = length-map terms (λ term. term.integral) in
+    let none : Term = record { integral = x; coefficient = 0 } in (
       λ member.
-          elim (Contains-push_cases now term.integral x member) [
-            | inl among ↦ elim ((before x).0 among) [ inl first ↦ inl first | inr earlier ↦ inr (later earlier) ]
-            | inr same ↦ inr (n, omega arith, λ d. here d ∙ same)
+          elim (Contains-append_cases old integrals x (subst (λ xs. Contains xs x) pushed.behind member)) [
+            | inl first ↦ inl first
+            | inr (k, h, is) ↦
+                let here : (get_or terms k none).integral ≡ x = sym (get_or-map (λ (term : Term). term.integral) terms k none x (omega arith)) ∙ is in
+                let at : coefficient row x ≡ (get_or terms k none).coefficient =
+                pushed.coefficients x ∙ ap (λ y. total_at y terms) (sym here) ∙ total_at-place row.order terms k none (omega arith) (Descends-from_pairs row.order terms pushed.list.descend) in
+                inr (λ e. pushed.list.no_zero k none (omega arith) (sym at ∙ e))
           ],
       λ either.
-          elim either [
-            | inl first ↦ Contains-append_left now (term.integral ∷ []) x ((before x).1 (inl first))
-            | inr (k, h, is) ↦
-                elim (cases_lt k n) [
-                  | inl earlier ↦ Contains-append_left now (term.integral ∷ []) x ((before x).1 (inr (k, earlier, is)))
-                  | inr last ↦
-                      let same : n ≡ k = omega arith in
-                      subst (Contains (now ++ term.integral ∷ [])) (sym (here term) ∙ ap (λ m. (get_or terms m term).integral) same ∙ is term) (Contains-push now term.integral)
-                ]
-          ],
+          subst (λ xs. Contains xs x) (sym pushed.behind) (elim either [
+            | inl first ↦ Contains-append_left old integrals x first
+            | inr shows ↦
+                let found = term_of_shown x terms (λ e. shows (pushed.coefficients x ∙ e)) in
+                Contains-append_right old integrals x (found.0, omega (arith, found.1, size), get_or-map (λ (term : Term). term.integral) terms found.0 none x (omega (arith, found.1)) ∙ found.2 none)
+          ]),
     )
-
-pub gained_row : (order : Order) (terms : List Term) (row : Row) (n : ℕ) (old now : List Integral) → IsTermList order terms → ((x : Integral) → coefficient row x ≡ total_at x terms) → length terms ≤ n → n ≤ length terms → HasGainedBefore terms n old now → HasGained row old now
-gained_row order terms row n old now list is low high before x = (
-  λ member.
-      elim ((before x).0 member) [
-        | inl first ↦ inl first
-        | inr (k, h, of_k) ↦
-            let d : Term = record { integral = record { family = 0; indices = [] }; coefficient = 0 } in
-            let at : coefficient row x ≡ (get_or terms k d).coefficient =
-            is x ∙ ap (λ y. total_at y terms) (sym (of_k d)) ∙ total_at-place order terms k d (omega arith) (Descends-from_pairs order terms list.descend) in
-            inr (λ e. list.no_zero k d (omega arith) (sym at ∙ e))
-      ],
-  λ either.
-      elim either [
-        | inl first ↦ (before x).1 (inl first)
-        | inr shows ↦
-            let found = term_of_shown x terms (λ e. shows (is x ∙ e)) in
-            (before x).1 (inr (found.0, omega (arith, found.1), found.2))
-      ],
-)
 
 -- ---- the integrals of rows
 

@@ -1,9 +1,9 @@
 //! Lists of rows.
 
-ghost use Rattle.std.specs.Prelude.{◌≡◌, ◌↔◌, ◌++◌, IsTrue, IfOk, OnOk, length};
+ghost use Rattle.std.specs.Prelude.{◌≡◌, ◌↔◌, IsTrue, IfOk, length};
 
 use out_of_memory::OutOfMemory;
-use sparse_row::Row;
+use sparse_row::{Row, copies};
 use std::alloc::Global;
 use std::marker::Model;
 
@@ -61,25 +61,6 @@ impl Rows {
     {
         are_equal(self.rows.as_slice(), other.rows.as_slice())
     }
-}
-
-/// Appends copies of the rows.
-pub(crate) fn push_copies(made: &mut Vec<Row>, rows: &[Row]) -> Result<(), OutOfMemory>
-    ensures { OnOk result (made.new.items ≡ made.old.items ++ rows.now) }
-{
-    for row in rows {
-        made.push(row.copy()?)?;
-    }
-    Ok(())
-}
-
-/// Copies of the rows.
-pub(crate) fn copies(alloc: Global, rows: &[Row]) -> Result<Vec<Row>, OutOfMemory>
-    ensures { IfOk result (λ made. made.items ≡ rows.now) }
-{
-    let mut made = Vec::with_capacity(alloc, rows.len())?;
-    push_copies(&mut made, rows)?;
-    Ok(made)
 }
 
 fn are_equal(rows: &[Row], others: &[Row]) -> bool

@@ -1,12 +1,11 @@
 //! The integrals that rows show, ascending, so that one is found by halving.
 
-ghost use Rattle.std.specs.Prelude.{◌≡◌, ◌↔◌, ◌++◌, List, Contains, map, IsTrue, IfOk, OnOk};
+ghost use Rattle.std.specs.Prelude.{◌↔◌, Contains, IsTrue, IfOk};
 ghost use Rattle.std.specs.List.Sorted.{IsSorted};
 ghost use Rattle.integral_index.specs.Integral.{Integral as IntegralValue};
 ghost use Rattle.integral_index.specs.Order.{compare};
-ghost use Rattle.sparse_row.specs.Row.{Shows};
 ghost use Rattle.sector_forward.specs.Elimination.{IsShownBySome};
-ghost use Rattle.reduction_core.specs.Shown.{HasGained, AreShownBy};
+ghost use Rattle.reduction_core.specs.Shown.{AreShownBy};
 
 use integral_index::{Integral, Order};
 use out_of_memory::OutOfMemory;
@@ -32,20 +31,9 @@ fn gathered(alloc: Global, rows: &[Row]) -> Result<Vec<Integral>, OutOfMemory>
 {
     let mut shown = Vec::new(alloc);
     for row in rows {
-        gather(&mut shown, row)?;
+        row.push_integrals(&mut shown)?;
     }
     Ok(shown)
-}
-
-// Appends the integrals that the row shows.
-fn gather(shown: &mut Vec<Integral>, row: &Row) -> Result<(), OutOfMemory>
-    ensures { OnOk result (HasGained row.now shown.old.items shown.new.items) }
-{
-    let terms = row.terms();
-    for term in terms {
-        shown.push(term.integral)?;
-    }
-    Ok(())
 }
 
 /// Whether the integral is one of these, which ascend.

@@ -7,10 +7,9 @@ ghost use Rattle.sparse_row.specs.Row.{IsRow};
 ghost use Rattle.reduction_core.specs.Slots.{units_of, state_of, IsUnitAt, IsPushedAt, IsJoined, HaveListedUnits};
 
 use crate::listed::ListedRows;
-use crate::rows::push_copies;
 use integral_index::{Order, Unit};
 use out_of_memory::OutOfMemory;
-use sparse_row::Row;
+use sparse_row::{Row, push_copies};
 use std::alloc::Global;
 use std::mem;
 

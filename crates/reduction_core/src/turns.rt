@@ -14,14 +14,13 @@ ghost use Rattle.reduction_core.specs.Ready.{NoForward, NoBack, IsForwardTurn, I
 
 use crate::listed::ListedRows;
 use crate::readiness::{back_turn, forward_turn};
-use crate::rows::copies;
 use crate::shown::{is_shown, shown_integrals};
 use crate::slots::Slot;
 use crate::task::Task;
 use field_word::Modulus;
 use integral_index::{Integral, Order, Unit};
 use out_of_memory::OutOfMemory;
-use sparse_row::Row;
+use sparse_row::{Row, copies};
 use std::alloc::Global;
 
 /// The task of the unit whose turn it is, if there is one.

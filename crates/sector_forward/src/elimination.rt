@@ -15,7 +15,7 @@ use crate::reduction::reduced_rows;
 use field_word::Modulus;
 use integral_index::{Order, Unit};
 use out_of_memory::OutOfMemory;
-use sparse_row::Row;
+use sparse_row::{Row, copies};
 use std::alloc::Global;
 use std::marker::Model;
 use std::sync::ledger::Ledger;
@@ -155,16 +155,6 @@ fn order_of(rows: &[Row]) -> Order
         [] => Order::Standard,
         [row, ..] => row.order(),
     }
-}
-
-fn copies(alloc: Global, rows: &[Row]) -> Result<Vec<Row>, OutOfMemory>
-    ensures { IfOk result (λ made. made.items ≡ rows.now) }
-{
-    let mut made = Vec::with_capacity(alloc, rows.len())?;
-    for row in rows {
-        made.push(row.copy()?)?;
-    }
-    Ok(made)
 }
 
 // Rows with their pivots in a unit, and rows with their pivots outside it.

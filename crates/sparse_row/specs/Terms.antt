@@ -1,5 +1,5 @@
 -- Rows as lists of terms, from the greatest integral to the least.
-use Rattle.std.specs.Prelude.{◌≡◌, ◌≢◌, ℕ, ◌+◌, ◌*◌, ◌%◌, ◌<◌, ◌==◌, if◌then◌else◌, List, [], ◌∷◌, map, All, AllPairs, sum_by}
+use Rattle.std.specs.Prelude.{◌≡◌, ◌≢◌, ℕ, ◌+◌, ◌*◌, ◌%◌, ◌<◌, ◌==◌, if◌then◌else◌, List, [], ◌∷◌, ◌++◌, map, All, AllPairs, sum_by}
 use Rattle.std.specs.FinMap as finite
 use Rattle.std.specs.Ordering.{eq_by_cmp}
 use Rattle.std.specs.declared.cmp.Ordering.TheVariants.{Greater}
@@ -7,7 +7,7 @@ use Rattle.integral_index.specs.declared.Order.{Order}
 use Rattle.integral_index.specs.Integral.{Integral}
 use Rattle.integral_index.specs.Order.{by_fields, compare}
 use Rattle.sparse_row.specs.declared.Term.{Term}
-use Rattle.sparse_row.specs.Row.{Row}
+use Rattle.sparse_row.specs.Row.{Row, coefficient}
 
 -- the coefficient of the term where it is one of x, and else 0
 abbrev pub coefficient_at : Integral → Term → ℕ
@@ -36,6 +36,14 @@ entry_of term = (term.integral, term.coefficient)
 -- the row of these terms
 abbrev pub row_of : Order → List Term → Row
 row_of order terms = record { order = order; terms = finite.from_entries (map entry_of terms) }
+
+-- the integrals of the row's terms stand behind the others
+pub record ArePushed (row : Row) (others pushed : List Integral) : Type 0 where
+  pub terms : List Term
+  pub list : IsTermList row.order terms
+  pub value : row_of row.order terms ≡ row
+  pub coefficients : (x : Integral) → coefficient row x ≡ total_at x terms
+  pub behind : pushed ≡ others ++ map (λ term. term.integral) terms
 
 -- the term times a factor, modulo p
 abbrev pub scaled_term : ℕ → ℕ → Term → Term

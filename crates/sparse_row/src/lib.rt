@@ -3,12 +3,14 @@
 
 use field_word::{Composite, Modulus};
 use integral_index::{Integral, Order};
+pub use lists::{copies, push_copies};
 use out_of_memory::OutOfMemory;
 use std::alloc::Global;
 use std::marker::Model;
 pub use terms::is_term_list;
 
 pub mod laws;
+mod lists;
 mod terms;
 
 /// A coefficient, a residue modulo some p, times an integral.
@@ -53,7 +55,7 @@ impl Row {
     ghost use Rattle.integral_index.specs.Integral.{Integral as IntegralValue};
     ghost use Rattle.sparse_row.specs.Row.{coefficient, Shows, IsRow, IsEmpty, IsGreatest, IsPivot};
     ghost use Rattle.sparse_row.specs.SumOfTerms.{empty_row, with_term};
-    ghost use Rattle.sparse_row.specs.Terms.{total_at, AllBelow, IsTermList, row_of};
+    ghost use Rattle.sparse_row.specs.Terms.{total_at, AllBelow, IsTermList, row_of, ArePushed};
 
     /// The row that shows nothing, in this order. It takes no memory yet.
     pub fn new(alloc: Global, order: Order) -> Row
@@ -204,6 +206,17 @@ impl Row {
         ensures coefficients { (x : IntegralValue) → coefficient self.now x ≡ total_at x result.now }
     {
         &self.terms
+    }
+
+    /// Appends the integrals that the row shows, from the greatest to the least.
+    pub fn push_integrals(&self, integrals: &mut Vec<Integral>) -> Result<(), OutOfMemory>
+        ensures { OnOk result (ArePushed self.now integrals.old.items integrals.new.items) }
+    {
+        let terms = self.terms();
+        for term in terms {
+            integrals.push(term.integral)?;
+        }
+        Ok(())
     }
 
     /// The terms, from the greatest integral to the least, without a copy.

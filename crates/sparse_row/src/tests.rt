@@ -41,6 +41,33 @@ fn has_terms(row: &Row, wanted: &[([i8; 3], u64)]) -> bool {
     true
 }
 
+type Terms = &'static [([i8; 3], u64)];
+
+const FIRST: Terms = &[([0, 1, 1], 5), ([-1, 2, 1], 100), ([-1, 1, 2], 100)];
+
+const SECOND: Terms = &[
+    ([0, 1, 1], 100),
+    ([-1, 2, 1], 1),
+    ([0, 1, 2], 5),
+    ([-1, 1, 2], 1),
+];
+
+const THIRD: Terms = &[
+    ([0, 1, 1], 1),
+    ([0, 2, 1], 96),
+    ([-1, 2, 1], 100),
+    ([-1, 1, 2], 100),
+];
+
+const TOP: Terms = &[([1, 1, 1], 3), ([0, 2, 1], 100), ([0, 1, 2], 100)];
+
+const SECOND_DESCENDING: Terms = &[
+    ([-1, 2, 1], 1),
+    ([-1, 1, 2], 1),
+    ([0, 1, 2], 5),
+    ([0, 1, 1], 100),
+];
+
 // The rows of the massless triangle at d = 7, s = 5 modulo 101, worked by a script from the derivative
 // rule, and reduced to tri[0,1,2] = 80*tri[0,1,1], tri[0,2,1] = 80*tri[0,1,1] and
 // tri[1,1,1] = 87*tri[0,1,1] by hand.
@@ -48,47 +75,11 @@ fn has_terms(row: &Row, wanted: &[([i8; 3], u64)]) -> bool {
 fn the_massless_triangle_is_reduced(rt: HostRuntime) -> Result<(), Fail> {
     let alloc = rt.alloc();
     let p = Modulus::new(101)?;
-    let first = row_of(
-        alloc,
-        &p,
-        &[([0, 1, 1], 5), ([-1, 2, 1], 100), ([-1, 1, 2], 100)],
-    )?;
-    let mut second = row_of(
-        alloc,
-        &p,
-        &[
-            ([0, 1, 1], 100),
-            ([-1, 2, 1], 1),
-            ([0, 1, 2], 5),
-            ([-1, 1, 2], 1),
-        ],
-    )?;
-    let mut third = row_of(
-        alloc,
-        &p,
-        &[
-            ([0, 1, 1], 1),
-            ([0, 2, 1], 96),
-            ([-1, 2, 1], 100),
-            ([-1, 1, 2], 100),
-        ],
-    )?;
-    let mut top = row_of(
-        alloc,
-        &p,
-        &[([1, 1, 1], 3), ([0, 2, 1], 100), ([0, 1, 2], 100)],
-    )?;
-    assert!(rt;
-        has_terms(
-            &second,
-            &[
-                ([-1, 2, 1], 1),
-                ([-1, 1, 2], 1),
-                ([0, 1, 2], 5),
-                ([0, 1, 1], 100)
-            ]
-        )
-    );
+    let first = row_of(alloc, &p, FIRST)?;
+    let mut second = row_of(alloc, &p, SECOND)?;
+    let mut third = row_of(alloc, &p, THIRD)?;
+    let mut top = row_of(alloc, &p, TOP)?;
+    assert!(rt; has_terms(&second, SECOND_DESCENDING));
 
     second.add_multiple(&first, 1, &p)?;
     assert!(rt; has_terms(&second, &[([0, 1, 2], 5), ([0, 1, 1], 4)]));
@@ -181,5 +172,47 @@ fn terms_give_the_row(rt: HostRuntime) -> Result<(), Fail> {
     let again = Row::from_terms(order, terms);
     assert!(rt; again.equals(&copy));
     assert!(rt; has_terms(&again, &[([0, 1, 2], 7), ([0, 1, 1], 1)]));
+    Ok(())
+}
+
+// Whether these are the integrals, one by one.
+fn are(integrals: &[Integral], wanted: &[[i8; 3]]) -> bool {
+    if integrals.len() != wanted.len() {
+        return false;
+    }
+    for (integral, indices) in integrals.iter().zip(wanted) {
+        if integral.indices() != indices.as_slice() {
+            return false;
+        }
+    }
+    true
+}
+
+// The integrals of a row stand behind those that were there, from the greatest to the least.
+#[test]
+fn rows_are_copied_and_their_integrals_appended(rt: HostRuntime) -> Result<(), Fail> {
+    let alloc = rt.alloc();
+    let p = Modulus::new(101)?;
+    let rows = [row_of(alloc, &p, TOP)?, row_of(alloc, &p, SECOND)?];
+    let mut integrals = Vec::new(alloc);
+    for row in &copies(alloc, &rows)? {
+        row.push_integrals(&mut integrals)?;
+    }
+    let wanted = [
+        [1, 1, 1],
+        [0, 2, 1],
+        [0, 1, 2],
+        [-1, 2, 1],
+        [-1, 1, 2],
+        [0, 1, 2],
+        [0, 1, 1],
+    ];
+    assert!(rt; are(&integrals, &wanted));
+    let mut made = copies(alloc, &rows[..1])?;
+    push_copies(&mut made, &rows)?;
+    assert_eq!(rt; made.len(), 3);
+    for place in 0..2 {
+        assert!(rt; made[place + 1].equals(&rows[place]), "{place}");
+    }
     Ok(())
 }

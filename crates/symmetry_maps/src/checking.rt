@@ -12,7 +12,7 @@ use crate::symmetries::Symmetry;
 use field_word::Modulus;
 use kinematics::{Momentum, Point};
 use out_of_memory::OutOfMemory;
-use propagators::{Denominator, Form, form, image};
+use propagators::{Denominator, Form, forms, image};
 use std::alloc::Global;
 
 /// The symmetry that replaces each loop momentum by its image: the one permutation σ for which the image of
@@ -48,26 +48,6 @@ pub fn check(
     let image_forms = image_forms(alloc, images, denominators, point, modulus)?;
     let places = places_of(alloc, &image_forms, &forms)?;
     Ok(Symmetry::of_places(places))
-}
-
-// The forms of the denominators.
-fn forms(
-    alloc: Global,
-    loops: u32,
-    denominators: &[Denominator],
-    point: &Point,
-    modulus: &Modulus,
-) -> Result<Vec<Form>, OutOfMemory>
-    requires modulus { point.now.modulus ≡ modulus.now }
-    requires denominators { All (IsDenominator modulus.now (loops + point.now.externals)) denominators.now }
-    ensures value { IfOk result (λ forms. forms.items ≡ map (form_of loops point.now) denominators.now) }
-    ensures forms { IfOk result (λ forms. All (IsForm modulus.now loops point.now.externals) forms.items) }
-{
-    let mut forms = Vec::new(alloc);
-    for denominator in denominators {
-        forms.push(form(alloc, denominator, loops, point, modulus)?)?;
-    }
-    Ok(forms)
 }
 
 // The forms of the denominators after each loop momentum was replaced by its image.

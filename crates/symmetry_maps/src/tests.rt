@@ -1,16 +1,14 @@
 //! Maps of the one-loop bubble, the one-loop box, the two-loop sunrise and a two-loop vacuum diagram, and the
 //! equations of the first and the last, worked by hand.
 
-ghost use Rattle.std.specs.Prelude.{◌≡◌, ◌≤◌, ◌+◌, All, IsTrue, IfOk, length};
-ghost use Rattle.kinematics.specs.Rules.{IsRule};
-ghost use Rattle.propagators.specs.Denominators.{IsDenominator};
+ghost use Rattle.std.specs.Prelude.{◌≡◌, ◌≤◌, IfOk};
 
 use super::*;
 use field_word::Modulus;
 use integral_index::{Integral, Order, ZeroSectors, is_index_list};
-use kinematics::{Momentum, Point, Rule, point};
+use kinematics::{Momentum, Point, Rule, are_coefficients, are_wide, point, rules_fit};
 use out_of_memory::OutOfMemory;
-use propagators::{Denominator, family};
+use propagators::{Denominator, denominators_fit, family};
 use sparse_row::Row;
 use std::alloc::{AllocFailed, Global};
 use std::test::Fail;
@@ -41,7 +39,7 @@ impl<T: Drop> From<AllocFailed<T>> for Wrong {
 }
 
 fn momentum(alloc: Global, coefficients: &[i16]) -> Result<Momentum, Wrong> {
-    if !coefficients.iter().all(|c| -1000 <= *c && *c <= 1000) {
+    if !are_coefficients(coefficients) {
         return Err(Wrong::Momentum);
     }
     Ok(Momentum::new(alloc, coefficients)?)
@@ -93,21 +91,6 @@ fn rules(alloc: Global, squares: &[([i16; 3], u64)], width: usize) -> Result<Vec
     Ok(rules)
 }
 
-fn is_rule(rule: &Rule, externals: u32, modulus: &Modulus) -> bool
-    ensures { IsTrue result → IsRule modulus.now externals rule.now }
-{
-    let size = externals as usize;
-    rule.left.coefficients().len() == size
-        && rule.right.coefficients().len() == size
-        && rule.value < modulus.value()
-}
-
-fn are_rules(rules: &[Rule], externals: u32, modulus: &Modulus) -> bool
-    ensures { IsTrue result → All (IsRule modulus.now externals) rules.now }
-{
-    rules.iter().all(|rule| is_rule(rule, externals, modulus))
-}
-
 fn point_of(
     alloc: Global,
     rules: &[Rule],
@@ -117,44 +100,13 @@ fn point_of(
     requires { externals ≤ 6 }
     ensures { IfOk result (λ point. point.modulus ≡ modulus.now) }
 {
-    if !are_rules(rules, externals, modulus) {
+    if !rules_fit(rules, externals, modulus) {
         return Err(Wrong::Rules);
     }
     match point(alloc, rules, externals, modulus) {
         Ok(found) => Ok(found),
         Err(_) => Err(Wrong::Point),
     }
-}
-
-fn is_denominator(denominator: &Denominator, width: usize, modulus: &Modulus) -> bool
-    ensures { IsTrue result → IsDenominator modulus.now width denominator.now }
-{
-    match denominator {
-        Denominator::Square { momentum, mass } => {
-            momentum.coefficients().len() == width && *mass < modulus.value()
-        }
-        Denominator::Bilinear { left, right, mass } => {
-            left.coefficients().len() == width
-                && right.coefficients().len() == width
-                && *mass < modulus.value()
-        }
-    }
-}
-
-fn are_denominators(denominators: &[Denominator], width: usize, modulus: &Modulus) -> bool
-    ensures { IsTrue result → All (IsDenominator modulus.now width) denominators.now }
-{
-    denominators
-        .iter()
-        .all(|denominator| is_denominator(denominator, width, modulus))
-}
-
-fn are_wide(images: &[Momentum], width: usize) -> bool
-    ensures { IsTrue result → All (λ image. length image ≡ width) images.now }
-{
-    images
-        .iter()
-        .all(|image| image.coefficients().len() == width)
 }
 
 fn symmetry_of(
@@ -173,7 +125,7 @@ fn symmetry_of(
     let width = images.len() + point.externals() as usize;
     let total = loops * (loops + 1) / 2 + loops * point.externals();
     if denominators.len() != total as usize
-        || !are_denominators(denominators, width, modulus)
+        || !denominators_fit(denominators, width, modulus)
         || !are_wide(images, width)
     {
         return Err(Wrong::Denominators);

@@ -1,5 +1,5 @@
 -- The terms of a row from the greatest to the least are the terms that a row keeps.
-use Rattle.std.proofs.Common.{◌≡◌, ℕ, suc, ◌<◌, true, ◌&&◌, T, List, [], ◌∷◌, length, map, refl, sym, ap, subst, ◌∙◌, cond, arith, get_or, Some}
+use Rattle.std.proofs.Common.{◌≡◌, ℕ, suc, ◌<◌, true, ◌&&◌, T, List, [], ◌∷◌, ◌++◌, length, map, refl, sym, ap, subst, ◌∙◌, cond, arith, get_or, Some}
 use Rattle.std.specs.Prelude.{AllPairs}
 use Rattle.std.specs.declared.cmp.Ordering.{Ordering}
 use Rattle.std.specs.declared.cmp.Ordering.TheVariants.{Less}
@@ -10,11 +10,12 @@ use Rattle.std.specs.FinMap as finite
 use Rattle.std.specs.FinMap.{IsAntisymmetric, find, is_sorted}
 use Rattle.std.specs.FinMap.Entries.{below_all}
 use Rattle.integral_index.specs.declared.Order.{Order}
+use Rattle.integral_index.specs.Integral.{Integral}
 use Rattle.integral_index.specs.Order.{by_fields, compare}
 use Rattle.integral_index.proofs.Orders.{by_fields-total, by_fields-IsAntisymmetric, compare-total, compare-IsAntisymmetric}
 use Rattle.sparse_row.specs.declared.Term.{Term}
 use Rattle.sparse_row.specs.Row.{Row}
-use Rattle.sparse_row.specs.Terms.{IsTermList, IsAbove, entry_of, row_of}
+use Rattle.sparse_row.specs.Terms.{ArePushed, IsTermList, IsAbove, entry_of, row_of}
 use Rattle.table_text.specs.Pieces.{descending_terms}
 use Rattle.table_text.specs.TableText.{shown_integrals}
 
@@ -72,3 +73,7 @@ entry_integrals (term ∷ rest) = λ i. term.integral ∷ entry_integrals rest i
 -- the integrals that a row shows are those of its terms
 pub shown_integrals-is : (order : Order) (terms : List Term) (row : Row) → IsTermList order terms → row_of order terms ≡ row → shown_integrals row ≡ map (λ term. term.integral) terms
 shown_integrals-is order terms row list is = ap (map (λ entry. entry.0)) (descending_terms-is order terms row list is) ∙ entry_integrals terms
+
+-- what a row appends
+pub pushed_shown : (row : Row) (others pushed : List Integral) → ArePushed row others pushed → pushed ≡ others ++ shown_integrals row
+pushed_shown row others pushed are = are.behind ∙ ap (λ integrals. others ++ integrals) (sym (shown_integrals-is row.order are.terms row are.list are.value))

@@ -1,6 +1,0 @@
--- The rows so far were copied.
-use Rattle.std.proofs.Common.{◌≡◌, take}
-use Rattle.sector_forward.proofs.elimination.copies.Given as goal
-
-abbrev pub invariant-loop-row : goal.invariant-loop-row
-invariant-loop-row l = l.made.items ≡ take l.row-index l.rows
