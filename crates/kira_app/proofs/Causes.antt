@@ -25,7 +25,7 @@ use Rattle.command_line.specs.Request as line
 use Rattle.kira_app.specs.Words.{asks, is_served, job_file, overrides_of, AreAnswered, AsksHelp}
 use Rattle.kira_app.specs.Sources.{Sources, TreesOf, OutlineOf, ReadsSources}
 use Rattle.kira_app.specs.Plans.{refusal_of, PlanOfSources, ServesAs, ServesWords, PlanOf}
-use Rattle.kira_app.specs.TopClauses.{HavePlan, AreRefusedAs, IsDivisor, IsDivisorIn, IsPrime, IsReductionFault, Around, HasCause, HasEnded, IsSaidByContents, IsMissedIn, IsAlike, IsAnsweredBy}
+use Rattle.kira_app.specs.TopClauses.{HavePlan, AreRefusedAs, IsDivisor, IsDivisorIn, IsPrime, IsReductionFault, StandsStill, Around, HasCause, HasEnded, IsSaidByContents, IsMissedIn, IsAlike, IsAnsweredBy}
 use Rattle.kira_app.specs.Laws.{AreAlike, NamesDivisorIn, JobsAgree, JobsNameDivisors, JobsHaveOneModulus}
 use Rattle.kira_app.proofs.Told.{weaker, always, then_is, then_refused, refused_first, next_answers, missing_said}
 use Rattle.kira_app.proofs.Agreement.{parted, trees_read, single_trees, single_outline}
@@ -226,6 +226,37 @@ help_has_no_plan words held r help h = nothing h.answer (subst (λ (q : Asked). 
 
 pub plainly_caused : (a : Around) (s : Status) (r : Refusal) → r ≡ plain s → IsCaused a s [] → IsCaused a r.status r.name
 plainly_caused a s r is h = subst (λ (x : Refusal). IsCaused a x.status x.name) (sym is) h
+
+-- where no step was taken, none was for any answer
+pub no_step : (n : ℕ) (s : Status) → StandsStill n n s
+no_step n status.Ok = tt
+no_step n status.WriteFault = tt
+no_step n (status.Composite fault) = tt
+no_step n status.OutOfMemory = tt
+no_step n status.Usage = refl
+no_step n status.NotYet = refl
+no_step n (status.Input fault) = refl
+no_step n (status.Singular cause) = refl
+no_step n (status.RulesClash multipliers residue) = refl
+no_step n (status.TooMany what count) = refl
+no_step n status.ReadFault = refl
+
+-- a reduction that gives no table may have taken some
+pub broken_off : (p before after : ℕ) (s : Status) (r : Refusal) → r ≡ plain s → IsReductionFault p s → StandsStill before after r.status
+broken_off p before after s r is h = subst (λ (x : Refusal). StandsStill before after x.status) (sym is) (by_status s h)
+  where
+    by_status : (s : Status) → IsReductionFault p s → StandsStill before after s
+    by_status (status.Composite fault) h = tt
+    by_status status.OutOfMemory h = tt
+    by_status status.Ok h = absurd h
+    by_status status.WriteFault h = absurd h
+    by_status status.Usage h = absurd h
+    by_status status.NotYet h = absurd h
+    by_status (status.Input fault) h = absurd h
+    by_status (status.Singular cause) h = absurd h
+    by_status (status.RulesClash multipliers residue) h = absurd h
+    by_status (status.TooMany what count) h = absurd h
+    by_status status.ReadFault h = absurd h
 
 -- what `?` answers
 pub err_ended : (a : Around) (r : Result (Unit {0}) Refusal) (e : Refusal) → IsErrAnd r (λ x. x ≡ e) → IsCaused a e.status e.name → HasEnded a r

@@ -77,6 +77,14 @@ pub record TakesUnits (before after : ℕ) (plan : Plan) : Type 0 where
   pub units_are : AreUnitsOf equations units
   pub taken : after ≡ before + length units
 
+-- no step was taken, but where a table was made or a reduction was broken off
+abbrev pub StandsStill : ℕ → ℕ → Status → Type 0
+StandsStill before after status.Ok = ⊤
+StandsStill before after status.WriteFault = ⊤
+StandsStill before after (status.Composite fault) = ⊤
+StandsStill before after status.OutOfMemory = ⊤
+StandsStill before after other = after ≡ before
+
 -- ---- the job
 
 -- the words and the files have a plan, of which this is true

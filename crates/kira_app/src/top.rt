@@ -16,7 +16,7 @@ ghost use Rattle.kira_app.specs.Message.{message_text, usage_line, IsToldOf};
 ghost use Rattle.kira_app.specs.Told.{IfTold, Tells};
 ghost use Rattle.kira_app.specs.Words.{AsksCall, AsksHelp, AsksUsage, AsksJob, AsksUnserved, AreAnswered, IsServedJob};
 ghost use Rattle.kira_app.specs.Plans.{PlanOf};
-ghost use Rattle.kira_app.specs.TopClauses.{IsTextOf, IsSent, IsPartlySent, TakesUnits, HavePlan, AreRefused, IsDivisorIn, IsPrime, IsMissedIn, HasCause, HasEnded, HasShown, IsExplained, IsAnsweredBy};
+ghost use Rattle.kira_app.specs.TopClauses.{IsTextOf, IsSent, IsPartlySent, TakesUnits, StandsStill, HavePlan, AreRefused, IsDivisorIn, IsPrime, IsMissedIn, HasCause, HasEnded, HasShown, IsExplained, IsAnsweredBy};
 
 use crate::laws::jobs_agree;
 use crate::loading::sources;
@@ -62,6 +62,7 @@ fn ended<F: Files, O: Sink, L: Ledger>(
       steps_after = steps.new;
     }) result }
     ensures missing { IfErr result (λ refusal. IsMissedIn (F.held files.old) (F.faults files.old) (F.faults files.new) refusal.status) }
+    ensures still { IfErr result (λ refusal. StandsStill steps.old steps.new refusal.status) }
     ensures silent { IfErr result (λ refusal. refusal.status ≢ Status.WriteFault → out.new ≡ out.old) }
     ensures same { F.held files.new ≡ F.held files.old }
 {
@@ -128,6 +129,7 @@ pub fn kira_alone<F: Files, O: Sink, E: Sink, L: Ledger>(
     ensures steps { AsksCall (map string_bytes words.now) → (result ≡ Status.Ok) ⊎ (result ≡ Status.WriteFault)
         → IfTold (F.held files.old) (HavePlan (map string_bytes words.now) (TakesUnits steps.old steps.new)) }
     ensures no_steps { ¬ (AsksJob (map string_bytes words.now)) → steps.new ≡ steps.old }
+    ensures still { StandsStill steps.old steps.new result }
 
     // For `--help` the usage line was sent, or a prefix of it where the count rose.
     ensures help { AsksHelp (map string_bytes words.now) → HasShown result (O.told out.old) (O.told out.new) (O.faults out.old) (O.faults out.new) }

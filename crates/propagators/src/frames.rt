@@ -101,7 +101,7 @@ impl Frame {
         ensures cause { IfErr result (λ fault.
             HasCause modulus.now (map (form_of loops point.now) denominators.now) fault) }
     {
-        let forms = forms(alloc, loops, denominators, point, modulus)?;
+        let forms = denominator_forms(alloc, loops, denominators, point, modulus)?;
         let rows = rows(alloc, &forms)?;
         let mut elimination = eliminate(alloc, &rows, denominators.len(), modulus)?;
         match elimination.cancelled.pop() {
@@ -203,7 +203,7 @@ impl Frame {
 }
 
 /// The forms of the denominators in the scalar products at a point, modulo its p.
-pub fn forms(
+pub fn denominator_forms(
     alloc: Global,
     loops: u32,
     denominators: &[Denominator],

@@ -17,7 +17,7 @@ pub use combinations::Combination;
 pub use denominators::{Denominator, denominators_fit, form, image};
 pub use faults::BasisFault;
 pub use forms::{Form, product};
-pub use frames::forms;
+pub use frames::denominator_forms;
 
 #[cfg(test)]
 mod tests;

@@ -43,7 +43,7 @@ impl Model for Board {
 }
 
 impl Board {
-    ghost use Rattle.std.specs.Prelude.{◌≡◌, ◌↔◌, ⊤, None, List, [], length, All, IsTrue, IfOk, OnOk, MatchOption};
+    ghost use Rattle.std.specs.Prelude.{◌≡◌, ◌↔◌, ⊤, None, List, [], length, All, IsTrue, IfOk, OnOk, OnErr, MatchOption};
     ghost use Rattle.sparse_row.specs.Row.{Row as RowValue, IsRow};
     ghost use Rattle.sparse_row.specs.ReducedList.{IsReduced};
     ghost use Rattle.sector_machine.specs.State.{State};
@@ -142,6 +142,7 @@ impl Board {
         ensures after { OnOk result (IsAfter self.old.order (event_of entry) self.old.state self.new.state) }
         ensures event { OnOk result (IsComputed self.old.modulus self.old.order self.old.state entry →
             Leads self.old.modulus self.old.order (event_of entry) self.old.state self.new.state) }
+        ensures refused { OnErr result (self.new.state.units ≡ []) }
         ensures modulus { self.new.modulus ≡ self.old.modulus }
         ensures order { self.new.order ≡ self.old.order }
     {

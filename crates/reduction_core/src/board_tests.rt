@@ -3,11 +3,12 @@
 
 use crate::board::Board;
 use crate::records::Record;
-use crate::rows::{Rows, copies};
+use crate::rows::Rows;
 use crate::task_tests::{Terms, computed};
 use crate::tests::{Wrong, rows_of};
 use field_word::Modulus;
 use integral_index::{Order, Unit};
+use sparse_row::copies;
 use std::alloc::Global;
 use std::test::Fail;
 

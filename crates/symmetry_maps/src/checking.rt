@@ -12,7 +12,7 @@ use crate::symmetries::Symmetry;
 use field_word::Modulus;
 use kinematics::{Momentum, Point};
 use out_of_memory::OutOfMemory;
-use propagators::{Denominator, Form, forms, image};
+use propagators::{Denominator, Form, denominator_forms, image};
 use std::alloc::Global;
 
 /// The symmetry that replaces each loop momentum by its image: the one permutation σ for which the image of
@@ -44,7 +44,7 @@ pub fn check(
 {
     // A modulus is above 1, so independent forms differ.
     let _p = modulus.value();
-    let forms = forms(alloc, images.len() as u32, denominators, point, modulus)?;
+    let forms = denominator_forms(alloc, images.len() as u32, denominators, point, modulus)?;
     let image_forms = image_forms(alloc, images, denominators, point, modulus)?;
     let places = places_of(alloc, &image_forms, &forms)?;
     Ok(Symmetry::of_places(places))

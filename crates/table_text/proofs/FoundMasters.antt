@@ -1,12 +1,12 @@
 -- The integrals that normal forms show, ascending, each once, are the masters.
-use Rattle.std.proofs.Common.{◌≡◌, ◌↔◌, ℕ, zero, suc, ◌+◌, ◌<◌, ◌≤◌, true, List, [], ◌∷◌, ◌++◌, length, get_or, take, AllPairs, Contains, is_some, refl, sym, ap, subst, ◌∙◌, inl, inr, arith}
+use Rattle.std.proofs.Common.{◌≡◌, ◌↔◌, ℕ, zero, suc, ◌≤◌, true, List, [], ◌∷◌, length, take, AllPairs, Contains, is_some, refl, sym, ap, subst, ◌∙◌, inl, inr, arith}
 use Rattle.std.specs.FinMap as finite
 use Rattle.std.specs.FinMap.Entries.{is_some-find}
 use Rattle.std.specs.List.{flat_map, list_any}
 use Rattle.std.specs.Ordering.{eq_by_cmp, flip_args}
 use Rattle.std.specs.Cmp.{Equal-is}
 use Rattle.std.proofs.lemmas.Cmp.{back_total, eq_by_cmp_equiv}
-use Rattle.std.proofs.lemmas.List.{flat_map_more, take_all, take_more}
+use Rattle.std.proofs.lemmas.List.{take_all}
 use Rattle.std.proofs.lemmas.List.Elements.{Contains-append_left, Contains-append_right, Contains-append_cases}
 use Rattle.std.proofs.lemmas.Map.Views.{list_any-from_Contains, Contains-from_any}
 use Rattle.integral_index.specs.declared.Order.{Order}
@@ -14,13 +14,12 @@ use Rattle.integral_index.specs.Integral.{Integral}
 use Rattle.integral_index.specs.Order.{compare}
 use Rattle.integral_index.proofs.Orders.{compare-total}
 use Rattle.sparse_row.specs.Row.{Row}
-use Rattle.sparse_row.specs.Terms.{ArePushed}
 use Rattle.reduction_core.specs.Table.{Table}
 use Rattle.reduction_core.specs.NormalForm.{masters}
 use Rattle.reduction_core.proofs.Masters.{keys_from_joined, keys_to_joined, keys_of_made, made_of_keys, masters_ascend}
 use Rattle.table_text.specs.Distinct.{IsLess}
 use Rattle.table_text.specs.TableText.{form_of, shown_integrals}
-use Rattle.table_text.proofs.DescendingTerms.{flipped, pushed_shown}
+use Rattle.table_text.proofs.DescendingTerms.{flipped}
 use Rattle.table_text.proofs.DistinctLemmas.{one_ascending}
 
 -- the integrals that a row shows are the keys of its map
@@ -67,15 +66,6 @@ module _ (zeros : ℕ → List ℕ) (table : Table) (selection : List Integral) 
       (λ z m.
       let there = keys_from_joined entries_of selection z (keys_of_made table.order (flat_map entries_of selection) z m) in
       (members z).1 (to_joined (λ x. shown_integrals (form_of zeros table x)) selection z there.0 there.1 (shown_from_key (form_of zeros table there.0) z there.2)))
-
-  -- a normal form adds what it shows to what a loop over the selection gathered
-  pub gathered_more : (i : ℕ) (x : Integral) (form : Row) (old now : List Integral) → i < length selection → x ≡ get_or selection i x → form ≡ form_of zeros table x → old ≡ flat_map (λ x. shown_integrals (form_of zeros table x)) (take i selection) → ArePushed form old now → now ≡ flat_map (λ x. shown_integrals (form_of zeros table x)) (take (i + 1) selection)
-  gathered_more i x form old now within read is before pushed =
-      pushed_shown form old now pushed
-      ∙ ap (λ (row : Row). old ++ shown_integrals row) is
-      ∙ ap (λ integrals. integrals ++ shown_integrals (form_of zeros table x)) before
-      ∙ flat_map_more (λ x. shown_integrals (form_of zeros table x)) [] (take i selection) x
-      ∙ ap (flat_map (λ x. shown_integrals (form_of zeros table x))) (sym (take_more selection i x within ∙ ap (λ y. take i selection ++ y ∷ []) (sym read)))
 
   -- the same, of what a loop over the whole selection gathered
   pub found_masters : (i : ℕ) (shown found : List Integral) (order : Order) → length selection ≤ i → shown ≡ flat_map (λ x. shown_integrals (form_of zeros table x)) (take i selection) → order ≡ table.order → AllPairs (IsLess order) found → ((x : Integral) → Contains found x ↔ Contains shown x) → found ≡ masters table.modulus table.order zeros table.rows selection

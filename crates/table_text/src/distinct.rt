@@ -4,11 +4,21 @@ ghost use Rattle.std.specs.Prelude.{◌≡◌, ◌++◌, ◌↔◌, Contains, Al
 ghost use Rattle.std.specs.List.Sorted.{IsSorted};
 ghost use Rattle.integral_index.specs.Integral.{Integral as IntegralValue};
 ghost use Rattle.integral_index.specs.Order.{compare};
+ghost use Rattle.table_text.specs.TableText.{shown_integrals};
 ghost use Rattle.table_text.specs.Distinct.{IsLess, IsLast, IsPushedOnce};
 
 use integral_index::{Integral, Order};
 use out_of_memory::OutOfMemory;
+use sparse_row::Row;
 use std::alloc::Global;
+
+/// Appends the integrals that a row shows, as the text lists them.
+pub(crate) fn push_shown(shown: &mut Vec<Integral>, row: &Row) -> Result<(), OutOfMemory>
+    ensures { OnOk result (shown.new.items ≡ shown.old.items ++ shown_integrals row.now) }
+{
+    row.push_integrals(shown)?;
+    Ok(())
+}
 
 /// The same integrals, ascending, each once.
 pub(crate) fn ascending(

@@ -7,7 +7,7 @@ ghost use Rattle.reduction_core.specs.NormalForm.{masters};
 ghost use Rattle.table_text.specs.Pieces.{descending_terms, integral_text, line_text, name_of};
 ghost use Rattle.table_text.specs.TableText.{form_of, masters_text, table_text, zeros_of};
 
-use crate::distinct::ascending;
+use crate::distinct::{ascending, push_shown};
 use crate::pieces::{push_integral, push_line, push_number};
 use integral_index::{Integral, ZeroSectors};
 use kinematics::Name;
@@ -33,7 +33,7 @@ pub fn text(
     for integral in selection {
         let form = table.normal_form(integral, &zeros[integral.family() as usize])?;
         push_line(&mut text, names, integral, &form)?;
-        form.push_integrals(&mut shown)?;
+        push_shown(&mut shown, &form)?;
     }
     push_masters(&mut text, names, &ascending(alloc, shown, table.order())?)?;
     Ok(text)
@@ -53,7 +53,7 @@ pub fn masters(
     let mut shown = Vec::new(alloc);
     for integral in selection {
         let form = table.normal_form(integral, &zeros[integral.family() as usize])?;
-        form.push_integrals(&mut shown)?;
+        push_shown(&mut shown, &form)?;
     }
     Ok(ascending(alloc, shown, table.order())?)
 }

@@ -1,7 +1,7 @@
 use Rattle.kira_app.specs.declared.refusal.Refusal.{Refusal}
-use Rattle.kira_app.specs.TopClauses.{IsMissedIn}
+use Rattle.kira_app.specs.TopClauses.{IsMissedIn, StandsStill}
 use Rattle.kira_app.proofs.ListLoading.{err_refusal}
-use Rattle.kira_app.proofs.Causes.{plan_caused, reduction_caused, plainly_caused, err_ended}
+use Rattle.kira_app.proofs.Causes.{plan_caused, reduction_caused, plainly_caused, err_ended, no_step, broken_off}
 use Rattle.kira_app.proofs.top.ended.Goals as goal
 
 pub returns-in_err-plan-clause-cause : goal.returns-in_err-plan-clause-cause
@@ -16,3 +16,9 @@ returns-in_err-plan-clause-missing g c = err_refusal _ _ (λ (r : Refusal). IsMi
 pub returns-clause-cause : goal.returns-clause-cause
 returns-clause-cause g c =
     λ words is. plainly_caused _ c.in-Err.status _ c.plain-in-Err.ensures (reduction_caused _ c.in_ok-plan.plan c.in-Err.status (c.in_ok-plan.ensures.plan words is).0 c.in-Err.ensures.cause)
+
+pub returns-in_err-plan-clause-still : goal.returns-in_err-plan-clause-still
+returns-in_err-plan-clause-still g c = err_refusal _ _ (λ (r : Refusal). StandsStill _ _ r.status) c.from_residual.ensures.1 (no_step _ c.in_err-plan.field-0.0.status)
+
+pub returns-clause-still : goal.returns-clause-still
+returns-clause-still g c = broken_off _ _ _ c.in-Err.status _ c.plain-in-Err.ensures c.in-Err.ensures.cause

@@ -1,7 +1,7 @@
 use Rattle.std.proofs.Common.{◌≡◌, take, map, All}
 use Rattle.propagators.specs.Forms.{IsForm}
 use Rattle.propagators.specs.Denominators.{form_of}
-use Rattle.propagators.proofs.frames.forms.Given as goal
+use Rattle.propagators.proofs.frames.denominator_forms.Given as goal
 
 abbrev pub invariant-loop-denominator : goal.invariant-loop-denominator
 invariant-loop-denominator l = record {
