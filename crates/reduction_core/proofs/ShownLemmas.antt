@@ -20,11 +20,13 @@ use Rattle.sparse_row.proofs.TermLists.{Descends-from_pairs}
 use Rattle.sector_forward.specs.Elimination.{IsShownBySome}
 use Rattle.sector_forward.proofs.Shown.{term_of_shown}
 use Rattle.sector_machine.proofs.Lists.{Contains-none}
-use Rattle.reduction_core.specs.Shown.{HasGained}
 
 -- ---- the integrals of a row
 
--- the integrals of a row came to the others
+-- the integrals that the row shows came to the others
+abbrev pub HasGained : Row → List Integral → List Integral → Type 0
+HasGained row old new = (x : Integral) → Contains new x ↔ (Contains old x ⊎ Shows row x)
+
 pub gained_row : (row : Row) (old now : List Integral) → ArePushed row old now → HasGained row old now
 gained_row row old now pushed x =
     let terms = pushed.terms in

@@ -1,7 +1,6 @@
 -- What is the same in all eliminations of a list of rows.
-use Rattle.std.proofs.Common.{◌≡◌, ◌≢◌, ℕ, zero, suc, ◌+◌, ◌-◌, ◌*◌, ◌%◌, ◌<◌, ◌≤◌, List, [], ◌∷◌, ◌++◌, length, get_or, map, All, Contains, refl, sym, ap, subst, ◌∙◌, ◌⊎◌, inl, inr, arith, zero-add, add_assoc, length-append}
+use Rattle.std.proofs.Common.{◌≡◌, ◌≢◌, ℕ, suc, ◌+◌, ◌-◌, ◌*◌, ◌%◌, ◌<◌, ◌≤◌, List, [], ◌∷◌, ◌++◌, length, get_or, All, Contains, refl, sym, ap, subst, ◌∙◌, inl, inr, arith, zero-add, add_assoc, length-append}
 use Rattle.std.specs.Ordering.{ordering_reverse}
-use Rattle.std.specs.declared.cmp.Ordering.{Ordering}
 use Rattle.std.specs.declared.cmp.Ordering.TheVariants.{Less, Equal, Greater}
 use Rattle.std.proofs.Math.Nat.{mod-add-mod, zero-mod, mul-zero, mul-one}
 use Rattle.std.proofs.lemmas.Nat.{mul-mod_first}
@@ -13,12 +12,12 @@ use Rattle.integral_index.specs.declared.Unit.{Unit}
 use Rattle.integral_index.specs.Integral.{Integral}
 use Rattle.integral_index.specs.Order.{compare, unit_of}
 use Rattle.integral_index.proofs.Orders.{compare-total, compare-IsAntisymmetric}
-use Rattle.sparse_row.specs.Row.{Row, coefficient, Shows, IsRow, IsGreatest, IsPivot}
-use Rattle.sparse_row.specs.Span.{combination, InSpan, SameSpan}
+use Rattle.sparse_row.specs.Row.{Row, coefficient, Shows, IsGreatest, IsPivot}
+use Rattle.sparse_row.specs.Span.{combination, InSpan}
 use Rattle.sparse_row.proofs.Spans.{at, combination-some, combination-only, combination-none}
-use Rattle.sparse_row.proofs.RowSpans.{no_row, functions, at-functions, InSpan-trans, InSpan-member}
+use Rattle.sparse_row.proofs.RowSpans.{no_row, functions, at-functions, InSpan-trans}
 use Rattle.sparse_row.proofs.RowValues.{greatest_same}
-use Rattle.sector_forward.specs.Elimination.{IsTaken, IsRuleOf, IsOutside, AreApart, IsElimination, IsShownBySome}
+use Rattle.sector_forward.specs.Elimination.{IsRuleOf, IsElimination, IsShownBySome}
 use Rattle.sector_forward.proofs.Keys.{decided}
 use Rattle.sector_forward.proofs.Parted.{shown_by_span}
 

@@ -1,9 +1,8 @@
 -- Reduced rows that are parted by unit are an elimination.
-use Rattle.std.proofs.Common.{◌≡◌, ◌≢◌, ℕ, ◌+◌, ◌*◌, ◌%◌, ◌<◌, ◌≤◌, List, [], ◌∷◌, ◌++◌, length, get_or, All, AllPairs, Contains, refl, sym, ap, subst, ◌∙◌, ◌⊎◌, inl, inr, arith, length-append}
+use Rattle.std.proofs.Common.{◌≡◌, ◌≢◌, ℕ, ◌*◌, ◌%◌, ◌<◌, ◌≤◌, List, [], ◌∷◌, ◌++◌, length, get_or, All, AllPairs, Contains, refl, sym, ap, subst, ◌∙◌, inl, inr, arith, length-append}
 use Rattle.std.specs.Ordering.{ordering_reverse}
-use Rattle.std.specs.declared.cmp.Ordering.{Ordering}
 use Rattle.std.specs.declared.cmp.Ordering.TheVariants.{Less, Equal, Greater}
-use Rattle.std.proofs.Math.Nat.{mod-mod, mod-eq_of_lt, zero-mod, mul-zero}
+use Rattle.std.proofs.Math.Nat.{zero-mod, mul-zero}
 use Rattle.std.proofs.lemmas.Bool.{cases_lt}
 use Rattle.std.proofs.lemmas.Cmp.{tied_itself}
 use Rattle.std.proofs.lemmas.List.{length-map}
@@ -19,7 +18,7 @@ use Rattle.sparse_row.specs.Span.{InSpan, SameSpan}
 use Rattle.sparse_row.specs.ReducedList.{Ascend, IsReduced}
 use Rattle.sparse_row.proofs.Spans.{at, combination-some}
 use Rattle.sparse_row.proofs.RowSpans.{no_row, functions, at-functions, SameSpan-trans}
-use Rattle.sector_forward.specs.Elimination.{IsTaken, IsRuleOf, IsOutside, AreApart, IsElimination, IsShownBySome}
+use Rattle.sector_forward.specs.Elimination.{IsTaken, AreApart, IsElimination, IsShownBySome}
 use Rattle.sector_forward.specs.Parting.{HasPivotIn, HasPivotOutside, IsParted}
 use Rattle.sector_forward.proofs.Keys.{decided}
 use Rattle.sector_forward.proofs.Taking.{members_spanned}

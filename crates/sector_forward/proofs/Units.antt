@@ -1,5 +1,5 @@
 -- Units are the same where their fields are.
-use Rattle.std.proofs.Common.{◌≡◌, ◌&&◌, ◌==◌, ℕ, Bool, true, false, IsTrue, ap, arith}
+use Rattle.std.proofs.Common.{◌≡◌, ◌&&◌, ◌==◌, IsTrue, ap, arith}
 use Rattle.std.proofs.lemmas.Bool.Decides.{nat_tests}
 use Rattle.integral_index.specs.declared.Unit.{Unit}
 

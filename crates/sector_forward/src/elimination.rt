@@ -8,7 +8,7 @@ ghost use Rattle.sparse_row.specs.ReducedList.{Ascend};
 ghost use Rattle.sector_forward.specs.Fault.{HasCause};
 ghost use Rattle.sector_forward.specs.Steps.{HasPivot};
 ghost use Rattle.sector_forward.specs.Elimination.{IsTaken, IsElimination, order_of};
-ghost use Rattle.sector_forward.specs.Parting.{IsParted};
+ghost use Rattle.sector_forward.specs.Parting.{IsParted, ArePartsOfReduced};
 
 use crate::fault::ForwardFault;
 use crate::reduction::reduced_rows;
@@ -111,8 +111,8 @@ impl Eliminated {
 /// Eliminates a unit from rows whose greatest integrals are of it.
 ///
 /// The rows are brought into reduced form over all their integrals, not only over those of the unit:
-/// so rows of the rest that depend on others vanish. How many terms are left is told in bench/README.md.
-/// One step is counted. Source: hep-ph/0102033.
+/// so rows and rest together are their one reduced list, and rows of the rest that depend on others vanish.
+/// How many terms are left is told in bench/README.md. One step is counted. Source: hep-ph/0102033.
 ///
 /// `Composite` only with a divisor of the modulus that lies between 1 and it.
 pub fn eliminate<L: Ledger>(
@@ -128,6 +128,7 @@ pub fn eliminate<L: Ledger>(
     ensures order { IfOk result (λ e. e.order ≡ order_of rows.items) }
     ensures input { IfOk result (λ e. e.input ≡ rows.items) }
     ensures elimination { IfOk result (λ e. IsElimination modulus (order_of rows.items) unit rows.items e.rows e.rest) }
+    ensures reduced { IfOk result (λ e. ArePartsOfReduced modulus (order_of rows.items) unit rows.items e.rows e.rest) }
     ensures cause { IfErr result (λ fault. HasCause modulus fault) }
     ensures steps { steps.new ≡ steps.old + 1 }
 {

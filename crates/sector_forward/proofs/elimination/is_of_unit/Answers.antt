@@ -1,7 +1,6 @@
 -- A row has one pivot.
-use Rattle.std.proofs.Common.{◌≡◌, ◌&&◌, Bool, true, false, IsTrue, ap, sym, subst, ◌∙◌}
+use Rattle.std.proofs.Common.{◌≡◌, IsTrue, ap, sym, subst, ◌∙◌}
 use Rattle.integral_index.specs.Order.{unit_of}
-use Rattle.integral_index.specs.declared.Unit.{Unit}
 use Rattle.sparse_row.specs.Row.{IsGreatest}
 use Rattle.sparse_row.proofs.RowValues.{greatest_same}
 use Rattle.sector_forward.proofs.Units.{same_unit, equal_units}

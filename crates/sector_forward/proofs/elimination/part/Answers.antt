@@ -1,11 +1,7 @@
 -- Each row goes to its side.
-use Rattle.std.proofs.Common.{◌≡◌, length, sym, ap, subst, ◌∙◌, map-id, arith, rules}
-use Rattle.std.proofs.lemmas.Bool.{cases_lt}
+use Rattle.std.proofs.Common.{◌≡◌, length, sym, subst, ◌∙◌, map-id, arith, rules}
 use Rattle.std.proofs.lemmas.Iterator.Adapters.{YieldsList-from_vec}
 use Rattle.std.proofs.lemmas.Iterator.Consumers.{YieldsList-turn, YieldsList-end}
-use Rattle.std.proofs.lemmas.List.{get_or_append_left, get_or_push}
-use Rattle.sparse_row.specs.Row.{Row}
-use Rattle.sparse_row.specs.ReducedList.{Ascend}
 use Rattle.sector_forward.specs.Steps.{HasPivot}
 use Rattle.sector_forward.specs.Parting.{IsParted}
 use Rattle.sector_forward.proofs.Parted.{IsParted-start, IsParted-own, IsParted-rest}
