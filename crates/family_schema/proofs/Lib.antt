@@ -1,4 +1,5 @@
 pub mod Single
+mod Present
 pub mod Bound
 mod SectorBounds
 mod ScopeCounts

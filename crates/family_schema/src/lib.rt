@@ -13,5 +13,5 @@ mod symmetries;
 mod tests;
 
 pub use content::{Family, Momenta, Propagator, Symmetry};
-pub use laws::reading_is_single;
+pub use laws::{reading_is_single, reading_never_says_missing};
 pub use reader::read;

@@ -1,3 +1,4 @@
 pub mod SmallProducts
 pub mod MomentumSteps
 pub mod Steps
+pub mod Present

@@ -3,6 +3,7 @@ use Rattle.std.specs.Prelude.{◌≡◌, ℕ, List, [], ◌∷◌, ◌++◌, Opt
 use denote.Ref.{Bor}
 use Rattle.input_schema.specs.declared.faults.File.{File}
 use Rattle.input_schema.specs.declared.faults.InputKind.{InputKind}
+use Rattle.input_schema.specs.declared.faults.InputKind.TheVariants.{Missing}
 use Rattle.input_schema.specs.declared.faults.InputFault.{InputFault}
 use Rattle.input_schema.specs.declared.faults.SchemaError.{SchemaError}
 use Rattle.input_schema.specs.declared.faults.SchemaError.TheVariants.{Fault, OutOfMemory}
@@ -19,6 +20,11 @@ infixl 10 ◌>>=◌
 abbrev pub ◌>>=◌ : {A B : Type 0} → Outcome A → (A → Outcome B) → Outcome B
 Ok a >>= f = f a
 Err e >>= f = Err e
+
+-- the items of a list, read from left to right up to the first fault, behind those that were read before
+abbrev pub each : {N A : Type 0} → (N → Outcome A) → List A → List N → Outcome (List A)
+each read found [] = Ok found
+each read found (item ∷ items) = read item >>= (λ a. each read (found ++ a ∷ []) items)
 
 -- A reading says which outcome a part has. That it has one at most is a law of each reading.
 abbrev pub Reading : Type 0 → Type 1
@@ -74,3 +80,14 @@ lent_pair (Err e) = Err e
 -- A reading has one outcome at most.
 abbrev pub IsSingle : {A : Type 0} → Reading A → Type 0
 IsSingle reading = (r q : Outcome _) → reading r → reading q → r ≡ q
+
+-- ---- files that are missing
+
+-- the kind is another than that the file is missing
+abbrev pub IsNotMissing : InputKind → Type 0
+IsNotMissing Missing = ⊥
+IsNotMissing other = Unit {0}
+
+-- no fault of the reading is that the file is missing
+abbrev pub NeverSaysMissing : {A : Type 0} → Reading A → Type 0
+NeverSaysMissing reading = (fault : InputFault) → reading (Err fault) → IsNotMissing fault.kind

@@ -1,5 +1,5 @@
 -- The answers for one outline and the same texts are the same, but where one names a divisor of the modulus.
-use Rattle.std.proofs.Common.{◌≡◌, ◌<◌, ◌≤◌, ℕ, Bool, true, false, List, [], length, Some, Ok, Err, inl, inr, refl, sym, ap, ◌∙◌, arith}
+use Rattle.std.proofs.Common.{◌≡◌, ◌≤◌, ℕ, Bool, true, false, List, [], length, Some, Ok, Err, inl, refl, sym, ap, ◌∙◌, arith}
 use Rattle.std.specs.Prelude.{slice_index_or}
 use Rattle.std.specs.Result.{is_ok}
 use Rattle.std.proofs.lemmas.Bool.{true≢false}
@@ -25,7 +25,7 @@ use Rattle.job_plan.specs.declared.gathering.Integrals.{Integrals}
 use Rattle.job_plan.specs.Outlines.{Outline}
 use Rattle.job_plan.specs.ListFiles.{told, IsListRead}
 use Rattle.job_plan.specs.Gathering.{most_integrals, AreAll, Gathers, AreFewTerms, AreIntegrals}
-use Rattle.job_plan.specs.Plans.{HasPlan, IsPlan}
+use Rattle.job_plan.specs.Plans.{HasPlan}
 use Rattle.job_plan.specs.Laws.{PlansAgree, PlansNameDivisors}
 use Rattle.job_plan.proofs.SingleLemmas.{gathers_single, plan_of_single}
 

@@ -1,8 +1,7 @@
 -- Families that were read have few symmetries.
-use Rattle.std.proofs.Common.{◌≡◌, ◌≤◌, ◌+◌, ℕ, All, List, [], ◌∷◌, ◌++◌, length, length-append, Option, Some, None, Ok, Err, ap, sym, subst, arith, codes}
+use Rattle.std.proofs.Common.{◌≡◌, ◌≤◌, ◌+◌, ℕ, All, List, [], ◌∷◌, ◌++◌, length, length-append, Option, Some, None, Ok, Err, sym, subst, arith, codes}
 use Rattle.std.specs.Prelude.{IfOk}
 use Rattle.std.proofs.lemmas.List.Elements.{All-nil, All-push}
-use Rattle.yaml_text.specs.declared.tree.Tree.{Tree}
 use Rattle.yaml_text.specs.declared.tree.Pair.{Pair}
 use Rattle.yaml_text.specs.Lines.{Bytes}
 use Rattle.input_schema.specs.declared.faults.File.TheVariants as file
@@ -13,7 +12,7 @@ use Rattle.kinematics_schema.specs.declared.content.Kinematics.{Kinematics}
 use Rattle.family_schema.specs.declared.content.Symmetry.{Symmetry}
 use Rattle.family_schema.specs.declared.content.Family.{Family}
 use Rattle.family_schema.specs.declared.scope.Scope.{Scope}
-use Rattle.family_schema.specs.FamilyFile.{ReadsSymmetry, ReadsSymmetries, ReadsBody, ReadsRest, ReadsFamily, ReadsFamilies}
+use Rattle.family_schema.specs.FamilyFile.{ReadsSymmetry, ReadsSymmetries, ReadsBody, ReadsFamily, ReadsFamilies}
 use Rattle.job_plan.proofs.Outcomes.{items_few}
 
 -- what was read in two parts

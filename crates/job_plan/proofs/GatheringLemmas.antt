@@ -1,5 +1,5 @@
 -- What is gathered, and why it can't be.
-use Rattle.std.proofs.Common.{◌≡◌, ◌<◌, ◌≤◌, ◌+◌, ℕ, zero, suc, All, List, [], ◌∷◌, ◌++◌, length, Result, Ok, Err, refl, sym, subst, arith, ◌⊎◌, inl, inr}
+use Rattle.std.proofs.Common.{◌<◌, ◌≤◌, ℕ, zero, suc, All, List, [], ◌∷◌, ◌++◌, length, Result, Ok, Err, refl, sym, subst, arith, inl, inr}
 use Rattle.std.specs.Prelude.{◌↔◌, Contains, IfOk, IfErr}
 use Rattle.std.specs.List.{flat_map}
 use Rattle.std.specs.declared.vec.Vec.{Vec}
@@ -17,15 +17,12 @@ use Rattle.job_point.specs.declared.faults.Excess.{Excess}
 use Rattle.job_point.specs.declared.faults.PlanError.{PlanError}
 use Rattle.job_point.specs.declared.faults.PlanError.TheVariants.{Input, Singular, RulesClash, Composite, TooMany, OutOfMemory}
 use Rattle.job_point.specs.Steps.{Answer, Refuses, Meets}
-use Rattle.job_point.specs.declared.faults.Excess.TheVariants.{Seeds, Selected}
 use Rattle.job_point.proofs.StepLemmas.{then_is, then_refuses, then_refuses_later}
 use Rattle.yaml_text.specs.Lines.{Bytes}
-use Rattle.kinematics_schema.specs.declared.content.Kinematics.{Kinematics}
-use Rattle.job_schema.specs.declared.selections.ListFile.{ListFile}
 use Rattle.job_plan.specs.Outlines.{Outline}
 use Rattle.job_plan.specs.Shapes.{shape_of, shapes_of, terms_of}
 use Rattle.job_plan.specs.ListFiles.{AreListsRead}
-use Rattle.job_plan.specs.Gathering.{most_integrals, IsListed, IsSelected, AreAll, HasExcess, Gathers, AreFewTerms, AreIntegrals}
+use Rattle.job_plan.specs.Gathering.{most_integrals, IsListed, IsSelected, AreAll, Gathers, AreFewTerms, AreIntegrals}
 use Rattle.job_plan.specs.Steps.{told}
 
 -- what a list of integrals answers here

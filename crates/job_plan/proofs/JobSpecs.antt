@@ -1,5 +1,5 @@
 -- The specs of a job fit its families, and its list files are of these.
-use Rattle.std.proofs.Common.{◌≡◌, ◌<◌, ◌≤◌, ◌+◌, ◌^◌, ℕ, zero, suc, Bool, true, false, cond, All, List, [], ◌∷◌, ◌++◌, map, length, length-append, Option, Some, None, Ok, refl, sym, ap, subst, ◌∙◌, arith, codes}
+use Rattle.std.proofs.Common.{◌≡◌, ◌<◌, ◌≤◌, ◌+◌, ◌^◌, ℕ, zero, suc, Bool, true, false, cond, All, List, [], ◌∷◌, map, length, Option, Some, None, Ok, sym, ap, subst, ◌∙◌, arith, codes}
 use Rattle.std.specs.Prelude.{IfOk, IfSome, get_or, nat_lt, slice_index_or, ◌||◌}
 use Rattle.std.specs.List.{flat_map}
 use Rattle.std.specs.Str.{bytes_eq}
@@ -12,11 +12,9 @@ use Rattle.yaml_text.specs.Lines.{Bytes}
 use Rattle.kinematics.specs.Names.{is_name, is_among}
 use Rattle.kinematics.specs.Values.{place_of}
 use Rattle.seed_sets.specs.declared.Shape.{Shape}
-use Rattle.seed_sets.specs.declared.Spec.{Spec}
 use Rattle.seed_sets.specs.Seeds.{IsFitting, IsShapeOf}
-use Rattle.input_schema.specs.declared.faults.File.{File}
 use Rattle.input_schema.specs.declared.faults.File.TheVariants.{Jobs}
-use Rattle.input_schema.specs.Readings.{Outcome, ◌>>=◌}
+use Rattle.input_schema.specs.Readings.{◌>>=◌, each}
 use Rattle.input_schema.specs.Nodes.{line_of, scalar, items, pair}
 use Rattle.input_schema.specs.Maps.{needed, value_of}
 use Rattle.input_schema.specs.Names.{reference, reference_at}
@@ -25,10 +23,9 @@ use Rattle.family_schema.specs.declared.content.Family.{Family}
 use Rattle.job_schema.specs.declared.frames.Frame.{Frame}
 use Rattle.job_schema.specs.declared.groups.Group.{Group}
 use Rattle.job_schema.specs.declared.selections.ListFile.{ListFile}
-use Rattle.job_schema.specs.Readings.{each}
-use Rattle.job_schema.specs.Specs.{no_limit, topologies, frame_at, fits, is_covered, sector_at, sector, sectors, bound, optional_bound, needed_bound, bounds, group_families, group_sectors, group_of, group_pairs, group, spec_of, specs_of_group, specs_of_groups, pair_count, limited, specs}
+use Rattle.job_schema.specs.Specs.{no_limit, topologies, frame_at, fits, is_covered, sector_at, sector, sectors, bound, optional_bound, needed_bound, bounds, group_families, group_sectors, group_of, group_pairs, group, spec_of, specs_of_group, pair_count, limited, specs}
 use Rattle.job_schema.specs.Jobs.{list_file_of, list_file}
-use Rattle.job_plan.specs.Readings.{names_of, frame_of}
+use Rattle.job_plan.specs.Readings.{frame_of}
 use Rattle.job_plan.specs.Shapes.{shape_of, shapes_of}
 use Rattle.job_plan.proofs.Outcomes.{behind, behind_known, each_all, tested, guarded, either}
 

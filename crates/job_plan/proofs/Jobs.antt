@@ -12,7 +12,7 @@ use Rattle.seed_sets.specs.Seeds.{IsFitting}
 use Rattle.input_schema.specs.declared.faults.File.TheVariants.{Jobs, Words}
 use Rattle.input_schema.specs.declared.faults.SchemaError.{SchemaError}
 use Rattle.input_schema.specs.declared.faults.InputKind.TheVariants.{BadOverride, UnknownName, DuplicateName}
-use Rattle.input_schema.specs.Readings.{Outcome, refuse, ◌>>=◌, Gives}
+use Rattle.input_schema.specs.Readings.{refuse, ◌>>=◌, Gives, each}
 use Rattle.input_schema.specs.Nodes.{line_of, items}
 use Rattle.input_schema.specs.Maps.{needed, value_of}
 use Rattle.job_schema.specs.declared.frames.Frame.{Frame}
@@ -22,7 +22,6 @@ use Rattle.job_schema.specs.declared.points.PointInput.{PointInput}
 use Rattle.job_schema.specs.declared.points.NumericPoint.{NumericPoint}
 use Rattle.job_schema.specs.declared.jobs.Job.{Job}
 use Rattle.job_schema.specs.Overridden.{Override}
-use Rattle.job_schema.specs.Readings.{each}
 use Rattle.job_schema.specs.Specs.{specs}
 use Rattle.job_schema.specs.Ratios.{ratio, prime}
 use Rattle.job_schema.specs.Overrides.{name_length, name_in, value_in, is_repeated, is_parameter, with_setting, with_prime, with_value, with_name, with_word, with_words, given, given_settings, settled, numeric_point}

@@ -10,3 +10,4 @@ pub mod SeedLemmas
 pub mod SingleLemmas
 pub mod AgreementLemmas
 pub mod OutlineLaws
+mod Present

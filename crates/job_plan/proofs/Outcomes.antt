@@ -6,9 +6,8 @@ use Rattle.yaml_text.specs.declared.tree.Tree.{Tree}
 use Rattle.input_schema.specs.declared.faults.File.{File}
 use Rattle.input_schema.specs.declared.faults.InputFault.{InputFault}
 use Rattle.input_schema.specs.declared.faults.SchemaError.{SchemaError}
-use Rattle.input_schema.specs.Readings.{Outcome, ◌>>=◌, Gives}
+use Rattle.input_schema.specs.Readings.{Outcome, ◌>>=◌, Gives, each}
 use Rattle.input_schema.specs.Nodes.{line_of, list, within, items}
-use Rattle.job_schema.specs.Readings.{each}
 
 -- of what follows a part, where it holds of it for each value of the part
 pub behind : {A B : Type 0} (o : Outcome A) (f : A → Outcome B) (P : B → Type 0) → ((a : A) → IfOk (f a) P) → IfOk (o >>= f) P

@@ -1,5 +1,5 @@
 -- What holds of every outline that is read: its modulus is above 1, and what it selects is told by the trees alone.
-use Rattle.std.proofs.Common.{◌≡◌, ◌<◌, ◌≤◌, ◌%◌, ◌^◌, ℕ, Bool, true, false, ◌&&◌, nat_le, nat_lt, List, [], ◌∷◌, ◌++◌, map, Option, Some, None, Result, Ok, Err, if◌then◌else◌, ◌==◌, length, refl, sym, ap, ◌∙◌, subst, arith, codes}
+use Rattle.std.proofs.Common.{◌≡◌, ◌%◌, ◌^◌, ℕ, Bool, true, false, ◌&&◌, nat_le, List, [], ◌∷◌, ◌++◌, map, Option, Some, None, Ok, Err, if◌then◌else◌, ◌==◌, length, refl, sym, ap, ◌∙◌, subst, codes}
 use Rattle.std.specs.Prelude.{IfOk, IfSome}
 use Rattle.field_word.specs.Residues.{IsModulus}
 use Rattle.std.specs.Str.{bytes_eq}
@@ -10,7 +10,6 @@ use Rattle.yaml_text.specs.declared.tree.Pair.{Pair}
 use Rattle.yaml_text.specs.Lines.{Bytes}
 use Rattle.input_schema.specs.declared.faults.File.{File}
 use Rattle.input_schema.specs.declared.faults.File.TheVariants.{Jobs, Words}
-use Rattle.input_schema.specs.declared.faults.InputFault.{InputFault}
 use Rattle.input_schema.specs.declared.faults.InputKind.TheVariants.{BadOverride, UnknownName, DuplicateName}
 use Rattle.input_schema.specs.Readings.{Outcome, refuse, ◌>>=◌, Reading, After, Then}
 use Rattle.input_schema.specs.Nodes.{line_of, scalar}
@@ -31,9 +30,9 @@ use Rattle.job_schema.specs.Ratios.{ratio, is_modulus, modulus, prime}
 use Rattle.job_schema.specs.Overrides.{name_length, name_in, value_in, is_repeated, is_parameter, with_setting, with_prime, with_value, with_name, with_word, with_words, given, given_settings, settled, numeric_point}
 use Rattle.job_schema.specs.Jobs.{prime_in, settings_of, point_of, point_pairs, point, run_flags, reduced_in, selected_in, point_in, job_pairs, job_of, job, under, job_node, jobs}
 use Rattle.job_plan.specs.Outlines.{Outline}
-use Rattle.job_plan.specs.Readings.{parameters, names_of, frame_of, ReadsJob, ReadsOutline}
+use Rattle.job_plan.specs.Readings.{parameters, names_of, frame_of, ReadsOutline}
 use Rattle.job_plan.specs.Laws.{OutlinesHaveAModulus, OneSelection}
-use Rattle.job_plan.proofs.Outcomes.{behind, behind_known, weaker, tested, either}
+use Rattle.job_plan.proofs.Outcomes.{behind, behind_known, tested, either}
 
 -- ---- the modulus
 

@@ -1,5 +1,5 @@
 -- What a plan keeps of its seeds and its selection.
-use Rattle.std.proofs.Common.{◌≡◌, ◌<◌, ◌≤◌, ◌+◌, ◌==◌, ℕ, ℤ, zero, suc, true, All, List, [], ◌∷◌, ◌++◌, length, length-append, Option, Some, None, Result, Ok, Err, refl, sym, ap, subst, ◌∙◌, arith, ◌⊎◌, inl, inr}
+use Rattle.std.proofs.Common.{◌≡◌, ◌≤◌, ◌+◌, ◌==◌, ℕ, ℤ, zero, suc, All, List, [], ◌∷◌, ◌++◌, length, Option, Some, None, Ok, Err, refl, sym, ap, subst, ◌∙◌, arith, inl, inr}
 use Rattle.std.specs.Prelude.{Contains, IfOk, slice_get, slice_index_or}
 use Rattle.std.specs.List.{AllZip}
 use Rattle.std.proofs.lemmas.Bool.Decides.{nat_tests}
@@ -10,29 +10,28 @@ use Rattle.integral_index.specs.Integral.{Integral, positive_part, negative_part
 use Rattle.integral_index.specs.declared.Order.TheVariants.{Standard}
 use Rattle.input_schema.specs.declared.faults.File.{File}
 use Rattle.input_schema.specs.declared.faults.File.TheVariants as file
-use Rattle.input_schema.specs.Readings.{Outcome, ◌>>=◌}
+use Rattle.input_schema.specs.Readings.{Outcome}
 use Rattle.seed_sets.specs.declared.Spec.{Spec}
 use Rattle.seed_sets.specs.declared.Shape.{Shape}
 use Rattle.seed_sets.specs.Seeds.{Ascends, IsFitting, IsSeedOfSome, IsShapeOf}
 use Rattle.propagators.specs.Basis.{Basis}
 use Rattle.family_schema.specs.declared.content.Family.{Family}
 use Rattle.job_schema.specs.declared.selections.ListFile.{ListFile}
-use Rattle.list_schema.specs.Readings as list_reading
 use Rattle.list_schema.specs.Indices.{pieces, index, indices}
-use Rattle.list_schema.specs.Lists.{inner, is_integral, name_in, counted, integral, Line, lines_from, on_line, list_file}
+use Rattle.list_schema.specs.Lists.{inner, is_integral, name_in, counted, Line, lines_from, on_line, list_file}
 use Rattle.std.specs.Str.{bytes_eq}
 use Rattle.ibp_generator.specs.Shifts.{IsSeedIndex}
 use Rattle.job_equations.specs.Equations.{IsSeedOf}
 use Rattle.job_point.specs.declared.faults.PlanError.TheVariants.{Input}
 use Rattle.job_point.specs.Point.{IsBasisOf}
-use Rattle.job_point.specs.Steps.{Answer, Step, Is, After, Then, Each}
+use Rattle.job_point.specs.Steps.{Answer, Step, After, Then, Each}
 use Rattle.job_plan.specs.declared.gathering.Integrals.{Integrals}
 use Rattle.job_plan.specs.Outlines.{Outline, IsSound}
-use Rattle.job_plan.specs.Shapes.{shape_of, shapes_of}
+use Rattle.job_plan.specs.Shapes.{shapes_of}
 use Rattle.job_plan.specs.ListFiles.{told, IsListRead, AreListsRead}
-use Rattle.job_plan.specs.Gathering.{IsListed, IsSelected, AreAll, AreIntegrals}
+use Rattle.job_plan.specs.Gathering.{IsSelected, AreIntegrals}
 use Rattle.job_plan.specs.Plans.{IsOfFamily}
-use Rattle.job_plan.proofs.Outcomes.{behind, behind_known, guarded}
+use Rattle.job_plan.proofs.Outcomes.{behind_known, each_counts, each_all, guarded}
 
 all_of : (P : Integral → Type 0) (xs : List Integral) → ((x : Integral) → Contains xs x → P x) → All P xs
 all_of P xs f = All-weaker (Contains xs) P f xs (All-contains_itself xs)
@@ -54,22 +53,6 @@ each_has step P one start (item ∷ items) all h e =
     each_has step P one (start ++ a ∷ []) items all (All-push P start a h (one start item a is)) rest)
 
 -- ---- the integrals of list files
-
-each_counts : {N A : Type 0} (read : N → Outcome A) (found : List A) (parts : List N) → IfOk (list_reading.each read found parts) (λ all. length all ≡ length found + length parts)
-each_counts read found [] = omega arith
-each_counts {N} {A} read found (part ∷ parts) =
-    behind (read part) (λ a. list_reading.each read (found ++ a ∷ []) parts) (λ all. length all ≡ length found + length (part ∷ parts)) (λ a.
-    weaker a (list_reading.each read (found ++ a ∷ []) parts) (each_counts read (found ++ a ∷ []) parts) (length-append found (a ∷ [])))
-  where
-    weaker : (a : A) (o : Outcome (List A)) → IfOk o (λ all. length all ≡ length (found ++ a ∷ []) + length parts) → length (found ++ a ∷ []) ≡ length found + 1 → IfOk o (λ all. length all ≡ length found + length (part ∷ parts))
-    weaker a (Ok all) h e = omega (arith, h, e)
-    weaker a (Err f) h e = tt
-
-each_all : {N A : Type 0} (read : N → Outcome A) (P : A → Type 0) → ((n : N) → IfOk (read n) P) → (found : List A) (parts : List N) → All P found → IfOk (list_reading.each read found parts) (All P)
-each_all read P one found [] all = all
-each_all read P one found (part ∷ parts) all =
-    behind_known (read part) (λ a. list_reading.each read (found ++ a ∷ []) parts) P (All P) (one part)
-    (λ a h. each_all read P one (found ++ a ∷ []) parts (All-push P found a all h))
 
 -- of this family, with so many indices
 record IsNamed (family width : ℕ) (x : Integral) : Type 0 where

@@ -1,5 +1,5 @@
 -- Shapes that stand for families.
-use Rattle.std.proofs.Common.{◌≡◌, ◌<◌, ◌≤◌, ◌^◌, ℕ, zero, suc, All, List, [], ◌∷◌, map, length, refl, sym, ap, subst, ◌∙◌, arith}
+use Rattle.std.proofs.Common.{◌≡◌, ◌<◌, ◌≤◌, ◌^◌, ℕ, zero, suc, All, List, [], ◌∷◌, map, refl, sym, ap, subst, ◌∙◌, arith}
 use Rattle.std.specs.Prelude.{◌↔◌}
 use Rattle.std.specs.List.{AllZip}
 use Rattle.std.proofs.lemmas.List.{length-map}
@@ -14,7 +14,6 @@ use Rattle.kinematics_schema.specs.declared.content.Kinematics.{Kinematics}
 use Rattle.kinematics_schema.specs.Sound as kinematics_file
 use Rattle.family_schema.specs.declared.content.Family.{Family}
 use Rattle.family_schema.specs.Scope.{width_of}
-use Rattle.family_schema.specs.Sound as family_file
 use Rattle.job_equations.specs.Bounds.{IsEquationShape}
 use Rattle.job_plan.specs.Outlines.{AreFamilies}
 use Rattle.job_plan.specs.Shapes.{shape_of, shapes_of, equation_shape_of}

@@ -1,13 +1,12 @@
 -- The same outline and texts have one plan at most.
-use Rattle.std.proofs.Common.{◌≡◌, ◌≢◌, ◌<◌, ◌≤◌, ℕ, zero, suc, List, [], ◌∷◌, length, Option, Some, Ok, Err, refl, sym, ap, subst, ◌∙◌, arith, ◌⊎◌, inl, inr}
-use Rattle.std.specs.Prelude.{◌↔◌, AllPairs, Contains, slice_get, slice_index_or}
+use Rattle.std.proofs.Common.{◌≡◌, ◌<◌, ℕ, zero, suc, List, [], ◌∷◌, length, Some, Ok, refl, sym, ap, subst, ◌∙◌, arith, ◌⊎◌, inl, inr}
+use Rattle.std.specs.Prelude.{AllPairs, Contains, slice_index_or}
 use Rattle.std.specs.List.{AllZip}
-use Rattle.std.specs.List.Sorted.{IsStrictlyIncreasing}
 use Rattle.std.proofs.lemmas.List.Kept.{AllPairs-from_increasing}
 use Rattle.yaml_text.specs.Lines.{Bytes}
 use Rattle.integral_index.specs.Integral.{Integral}
 use Rattle.integral_index.specs.declared.Order.TheVariants.{Standard}
-use Rattle.seed_sets.specs.Seeds.{OneListAscends, IsSeedOfSome}
+use Rattle.seed_sets.specs.Seeds.{OneListAscends}
 use Rattle.input_schema.specs.declared.faults.File.TheVariants as file
 use Rattle.family_schema.specs.declared.content.Family.{Family}
 use Rattle.job_schema.specs.declared.selections.ListFile.{ListFile}
@@ -22,7 +21,7 @@ use Rattle.job_plan.specs.declared.gathering.Integrals.{Integrals}
 use Rattle.job_plan.specs.Outlines.{Outline}
 use Rattle.job_plan.specs.ListFiles.{told, IsListRead}
 use Rattle.job_plan.specs.Gathering.{Gathers, AreFewTerms, AreIntegrals}
-use Rattle.job_plan.specs.Plans.{Plan, AreZerosOf, HasPlan, IsPlan}
+use Rattle.job_plan.specs.Plans.{AreZerosOf, HasPlan}
 use Rattle.job_plan.specs.Laws.{PlanIsSingle}
 
 -- ---- ascending numbers

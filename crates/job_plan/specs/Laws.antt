@@ -3,7 +3,7 @@ use Rattle.std.specs.Prelude.{◌≡◌, List, ◌<◌, Ok}
 use Rattle.field_word.specs.Residues.{IsModulus}
 use Rattle.yaml_text.specs.declared.tree.Tree.{Tree}
 use Rattle.yaml_text.specs.Lines.{Bytes}
-use Rattle.input_schema.specs.Readings.{IsSingle}
+use Rattle.input_schema.specs.Readings.{IsSingle, NeverSaysMissing}
 use Rattle.job_schema.specs.Overridden.{Override}
 use Rattle.job_point.specs.Steps as step
 use Rattle.job_point.specs.Agreement.{Agrees, NamesDivisorsAlone}
@@ -36,3 +36,11 @@ abbrev pub OneSelection : Type 0
 OneSelection =
     (families kinematics jobs : Tree) (words others : List Override) (one other : Outline)
     → ReadsOutline families kinematics jobs words (Ok one) → ReadsOutline families kinematics jobs others (Ok other) → one.select ≡ other.select
+
+-- no trees and words are refused as a file that is missing
+abbrev pub OutlinesNeverSayMissing : Type 0
+OutlinesNeverSayMissing = (families kinematics jobs : Tree) (words : List Override) → NeverSaysMissing (ReadsOutline families kinematics jobs words)
+
+-- and no outline and texts of list files are
+abbrev pub PlansNeverSayMissing : Type 0
+PlansNeverSayMissing = (outline : Outline) (texts : List Bytes) → step.NeverSaysMissing (IsPlan outline texts)

@@ -1,6 +1,6 @@
 //! Laws of the reading of a job and of its plan.
 
-ghost use Rattle.job_plan.specs.Laws.{OutlineIsSingle, PlanIsSingle, PlansAgree, PlansNameDivisors, OutlinesHaveAModulus, OneSelection};
+ghost use Rattle.job_plan.specs.Laws.{OutlineIsSingle, PlanIsSingle, PlansAgree, PlansNameDivisors, OutlinesHaveAModulus, OneSelection, OutlinesNeverSayMissing, PlansNeverSayMissing};
 
 use integral_index::Order;
 
@@ -43,4 +43,17 @@ pub fn outlines_have_a_modulus()
 {
     kinematics_schema::reading_is_single();
     family_schema::reading_is_single();
+}
+
+/// Neither the trees and words of a job nor an outline and the texts of its list files are refused as a file that
+/// is missing: only the loading of files says so. It does nothing when it runs.
+pub fn jobs_never_say_missing()
+    ensures outlines { OutlinesNeverSayMissing }
+    ensures plans { PlansNeverSayMissing }
+{
+    kinematics_schema::reading_never_says_missing();
+    family_schema::reading_never_says_missing();
+    job_schema::reading_never_says_missing();
+    list_schema::reading_never_says_missing();
+    job_point::points_never_say_missing();
 }

@@ -21,7 +21,9 @@ mod tests;
 pub use input_schema::{File, InputFault, InputKind};
 pub use job_point::{Excess, PlanError, Singular};
 pub use job_schema::{Override, read_override};
-pub use laws::{outline_is_single, outlines_have_a_modulus, plan_is_single, plans_agree};
+pub use laws::{
+    jobs_never_say_missing, outline_is_single, outlines_have_a_modulus, plan_is_single, plans_agree,
+};
 pub use outlines::Outline;
 pub use planner::plan;
 pub use plans::Plan;

@@ -6,3 +6,4 @@ mod SingleLemmas
 pub mod AgreeingSteps
 mod Agreement
 mod Divisors
+pub mod Present

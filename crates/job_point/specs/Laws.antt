@@ -3,7 +3,7 @@ use Rattle.std.specs.Prelude.{◌<◌, ℕ, List}
 use Rattle.kinematics_schema.specs.declared.content.Kinematics.{Kinematics}
 use Rattle.family_schema.specs.declared.content.Family.{Family}
 use Rattle.job_schema.specs.declared.points.Setting.{Setting}
-use Rattle.job_point.specs.Steps.{IsSingle}
+use Rattle.job_point.specs.Steps.{IsSingle, NeverSaysMissing}
 use Rattle.job_point.specs.Agreement.{Agrees, NamesDivisorsAlone}
 use Rattle.job_point.specs.Point.{IsAtPoint}
 
@@ -18,3 +18,7 @@ PointsAgree = (p : ℕ) (kinematics : Kinematics) (families : List Family) (sett
 -- and such a divisor lies between 1 and the modulus, and divides it
 abbrev pub PointsNameDivisors : Type 0
 PointsNameDivisors = (p : ℕ) (kinematics : Kinematics) (families : List Family) (settings : List Setting) → 1 < p → NamesDivisorsAlone p (IsAtPoint p kinematics families settings)
+
+-- nothing that a job says at its point is refused as a file that is missing
+abbrev pub PointsNeverSayMissing : Type 0
+PointsNeverSayMissing = (p : ℕ) (kinematics : Kinematics) (families : List Family) (settings : List Setting) → NeverSaysMissing (IsAtPoint p kinematics families settings)

@@ -1,7 +1,9 @@
 -- Steps in order, of which the first that has a fault is the last. The project's own.
 use Rattle.std.specs.Prelude.{◌≡◌, List, [], ◌∷◌, ◌++◌, Result, Ok, Err}
+use Rattle.input_schema.specs.declared.faults.InputFault.{InputFault}
+use Rattle.input_schema.specs.Readings.{IsNotMissing}
 use Rattle.job_point.specs.declared.faults.PlanError.{PlanError}
-use Rattle.job_point.specs.declared.faults.PlanError.TheVariants.{OutOfMemory}
+use Rattle.job_point.specs.declared.faults.PlanError.TheVariants.{Input, OutOfMemory}
 
 -- a value, or a fault
 abbrev pub Answer : Type 0 → Type 0
@@ -43,3 +45,7 @@ Meets step (Err e) = Refuses step e
 -- A step has one value at most.
 abbrev pub IsSingle : {A : Type 0} → Step A → Type 0
 IsSingle {A} step = (one other : A) → step (Ok one) → step (Ok other) → one ≡ other
+
+-- no fault of the step is that a file is missing
+abbrev pub NeverSaysMissing : {A : Type 0} → Step A → Type 0
+NeverSaysMissing step = (fault : InputFault) → step (Err (Input fault)) → IsNotMissing fault.kind

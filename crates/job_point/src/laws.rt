@@ -1,6 +1,6 @@
 //! Laws of what a job says at its numeric point.
 
-ghost use Rattle.job_point.specs.Laws.{PointsAreSingle, PointsAgree, PointsNameDivisors};
+ghost use Rattle.job_point.specs.Laws.{PointsAreSingle, PointsAgree, PointsNameDivisors, PointsNeverSayMissing};
 
 /// A job says one thing at most at its numeric point, modulo a number above 1. It does nothing when it
 /// runs.
@@ -24,3 +24,9 @@ pub fn points_agree()
     symmetry_maps::laws::symmetry_is_unique();
     symmetry_maps::laws::fault_refutes_symmetry();
 }
+
+/// Nothing that a job says at its numeric point is refused as a file that is missing. It does nothing when it
+/// runs.
+pub fn points_never_say_missing()
+    ensures { PointsNeverSayMissing }
+{}

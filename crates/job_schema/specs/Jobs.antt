@@ -11,7 +11,7 @@ use Rattle.kinematics.specs.Values.{place_of}
 use Rattle.seed_sets.specs.declared.Spec.{Spec}
 use Rattle.input_schema.specs.declared.faults.File.TheVariants.{Words, Jobs}
 use Rattle.input_schema.specs.declared.faults.InputKind.TheVariants.{ManyJobs, NoValue, BadOverride, UnknownName, DuplicateName}
-use Rattle.input_schema.specs.Readings.{Outcome, refuse, ◌>>=◌}
+use Rattle.input_schema.specs.Readings.{Outcome, refuse, ◌>>=◌, each}
 use Rattle.input_schema.specs.Nodes.{line_of, scalar, items, pair, flag}
 use Rattle.input_schema.specs.Maps.{Key, fields, needed, value_of}
 use Rattle.input_schema.specs.Names.{reference}
@@ -21,7 +21,6 @@ use Rattle.job_schema.specs.declared.selections.Selection.{Selection}
 use Rattle.job_schema.specs.declared.points.Setting.{Setting}
 use Rattle.job_schema.specs.declared.points.PointInput.{PointInput}
 use Rattle.job_schema.specs.declared.jobs.Job.{Job}
-use Rattle.job_schema.specs.Readings.{each}
 use Rattle.job_schema.specs.Ratios.{ratio, prime}
 use Rattle.job_schema.specs.Specs.{no_limit, specs}
 

@@ -7,12 +7,11 @@ use Rattle.kinematics.specs.Names.{is_among}
 use Rattle.kinematics.specs.Values.{place_of}
 use Rattle.input_schema.specs.declared.faults.File.TheVariants.{Words, Jobs}
 use Rattle.input_schema.specs.declared.faults.InputKind.TheVariants.{NoValue, BadOverride, UnknownName, DuplicateName}
-use Rattle.input_schema.specs.Readings.{Outcome, refuse, ◌>>=◌}
+use Rattle.input_schema.specs.Readings.{Outcome, refuse, ◌>>=◌, each}
 use Rattle.job_schema.specs.declared.points.Setting.{Setting}
 use Rattle.job_schema.specs.declared.points.PointInput.{PointInput}
 use Rattle.job_schema.specs.declared.points.NumericPoint.{NumericPoint}
 use Rattle.job_schema.specs.Overridden.{Override}
-use Rattle.job_schema.specs.Readings.{each}
 use Rattle.job_schema.specs.Ratios.{ratio, prime}
 
 -- how many bytes stand before the first equals sign

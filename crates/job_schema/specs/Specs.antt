@@ -9,7 +9,7 @@ use Rattle.integral_index.specs.ZeroSectors.{is_subsector}
 use Rattle.seed_sets.specs.declared.Spec.{Spec}
 use Rattle.input_schema.specs.declared.faults.File.TheVariants.{Jobs}
 use Rattle.input_schema.specs.declared.faults.InputKind.TheVariants.{OutOfRange, SectorOutside}
-use Rattle.input_schema.specs.Readings.{Outcome, refuse, ◌>>=◌}
+use Rattle.input_schema.specs.Readings.{Outcome, refuse, ◌>>=◌, each}
 use Rattle.input_schema.specs.Nodes.{line_of, items}
 use Rattle.input_schema.specs.Maps.{Key, fields, needed, value_of}
 use Rattle.input_schema.specs.Names.{reference}
@@ -17,7 +17,6 @@ use Rattle.input_schema.specs.Numbers.{wide_number, number}
 use Rattle.job_schema.specs.declared.frames.Frame.{Frame}
 use Rattle.job_schema.specs.declared.groups.Group.{Group}
 use Rattle.job_schema.specs.declared.groups.Bounds.{Bounds}
-use Rattle.job_schema.specs.Readings.{each}
 
 -- more items than any list can have
 abbrev pub no_limit : ℕ

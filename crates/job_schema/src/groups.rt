@@ -5,10 +5,9 @@ ghost use Rattle.std.specs.List.{list_any};
 ghost use Rattle.std.specs.Option.{option_copied};
 ghost use Rattle.integral_index.specs.ZeroSectors.{is_subsector};
 ghost use Rattle.input_schema.specs.Names.{reference};
-ghost use Rattle.input_schema.specs.Readings.{Gives, lent};
+ghost use Rattle.input_schema.specs.Readings.{Gives, lent, each};
 ghost use Rattle.input_schema.specs.declared.faults.File.TheVariants.{Jobs};
 ghost use Rattle.job_schema.specs.Specs as spec;
-ghost use Rattle.job_schema.specs.Readings.{each};
 
 use crate::frames::Frame;
 use input_schema::{

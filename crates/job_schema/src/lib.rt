@@ -4,6 +4,7 @@
 mod frames;
 mod groups;
 mod jobs;
+mod laws;
 mod overrides;
 mod points;
 mod ratios;
@@ -12,6 +13,7 @@ mod selections;
 pub use frames::Frame;
 pub use groups::Group;
 pub use jobs::{Job, read_jobs};
+pub use laws::reading_never_says_missing;
 pub use overrides::{Override, override_point, read_override};
 pub use points::{NumericPoint, PointInput, Setting};
 pub use ratios::{Divisor, Ratio};

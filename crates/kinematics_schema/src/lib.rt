@@ -13,6 +13,6 @@ mod rules;
 mod tests;
 
 pub use content::{Conserved, Kinematics, Rule};
-pub use laws::reading_is_single;
+pub use laws::{reading_is_single, reading_never_says_missing};
 pub use momenta::{independent, read_independent};
 pub use reader::read;

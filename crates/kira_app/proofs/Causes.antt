@@ -11,7 +11,7 @@ use Rattle.job_schema.specs.Overridden.{Override}
 use Rattle.job_point.specs.declared.points.AtPoint.{AtPoint}
 use Rattle.job_point.specs.Steps as point
 use Rattle.job_point.specs.Point.{IsAtPoint}
-use Rattle.job_plan.specs.Laws.{OutlineIsSingle}
+use Rattle.job_plan.specs.Laws.{OutlineIsSingle, OutlinesNeverSayMissing, PlansNeverSayMissing}
 use Rattle.job_plan.specs.Outlines.{Outline}
 use Rattle.job_plan.specs.Plans.{Plan, IsPlan}
 use Rattle.kira_app.specs.declared.job_files.Trees.{Trees}
@@ -19,15 +19,16 @@ use Rattle.kira_app.specs.declared.status.Status.{Status}
 use Rattle.kira_app.specs.declared.status.Status.TheVariants as status
 use Rattle.kira_app.specs.declared.refusal.Refusal.{Refusal}
 use Rattle.kira_app.specs.Steps.{Answer, After, Then, plain, OfPlan}
-use Rattle.kira_app.specs.Told.{IfTold, ByStatus, Answers, RefusesTold, Tells}
+use Rattle.kira_app.specs.Told.{IfTold, ByStatus, Answers, RefusesTold, Tells, SaysMissing, IsMissed}
 use Rattle.command_line.specs.Request.{Asked}
 use Rattle.command_line.specs.Request as line
 use Rattle.kira_app.specs.Words.{asks, is_served, job_file, overrides_of, AreAnswered, AsksHelp}
 use Rattle.kira_app.specs.Sources.{Sources, TreesOf, OutlineOf, ReadsSources}
 use Rattle.kira_app.specs.Plans.{refusal_of, PlanOfSources, ServesAs, ServesWords, PlanOf}
-use Rattle.kira_app.specs.TopClauses.{HavePlan, AreRefusedAs, IsDivisor, IsDivisorIn, IsPrime, IsReductionFault, StandsStill, Around, HasCause, HasEnded, IsSaidByContents, IsMissedIn, IsAlike, IsAnsweredBy}
+use Rattle.kira_app.specs.TopClauses.{HavePlan, AreRefusedAs, IsDivisor, IsDivisorIn, IsPrime, IsReductionFault, StandsStill, Around, HasCause, HasEnded, IsAlike, IsAnsweredBy}
 use Rattle.kira_app.specs.Laws.{AreAlike, NamesDivisorIn, JobsAgree, JobsNameDivisors, JobsHaveOneModulus}
 use Rattle.kira_app.proofs.Told.{weaker, always, then_is, then_refused, refused_first, next_answers, missing_said}
+use Rattle.kira_app.proofs.Present.{outline_present, plan_present}
 use Rattle.kira_app.proofs.Agreement.{parted, trees_read, single_trees, single_outline}
 
 -- ---- a plan, taken apart
@@ -138,20 +139,19 @@ abbrev refusal_or : Refusal → Answer Plan → Refusal
 refusal_or d (Ok plan) = d
 refusal_or d (Err e) = e
 
-said_after : (overrides : List Override) (sources : Sources) (e : Refusal) (o : Answer Outline) → OutlineOf overrides sources.trees o →
-    After o (λ outline. OfPlan (refusal_of outline) (IsPlan outline sources.lists)) (Err e) → IsSaidByContents e.status
-said_after overrides sources e (Ok outline) is h = inr (outline, sources.lists, h.0, h.1, ap (λ (x : Refusal). x.status) h.2)
-said_after overrides sources e (Err x) is h =
+present_after : OutlinesNeverSayMissing → PlansNeverSayMissing → (overrides : List Override) (sources : Sources) (e : Refusal) (o : Answer Outline) → OutlineOf overrides sources.trees o →
+    After o (λ outline. OfPlan (refusal_of outline) (IsPlan outline sources.lists)) (Err e) → SaysMissing e.status → ⊥
+present_after outlines plans overrides sources e (Ok outline) is h missing = plan_present plans outline sources.lists e h missing
+present_after outlines plans overrides sources e (Err x) is h missing =
     let same : e ≡ x = ap (refusal_or e) h in
-    inl (overrides, sources.trees, (is.0, is.1, ap (λ (y : Refusal). plain y.status) (same ∙ is.2)))
+    outline_present outlines overrides sources.trees x is (subst (λ (r : Refusal). SaysMissing r.status) same missing)
 
-pub said_by_contents : (overrides : List Override) (sources : Sources) (e : Refusal) → PlanOfSources overrides sources (Err e) → IsSaidByContents e.status
-said_by_contents overrides sources e h = said_after overrides sources e h.answer h.is h.after
-
-pub missing_in : (held : Option Held) (before now : ℕ) (overrides : List Override) (sources : Sources) (r : Answer Plan) → Answers (PlanOfSources overrides sources) r →
-    IfErr r (λ (refusal : Refusal). IsMissedIn held before now refusal.status)
-missing_in held before now overrides sources (Ok plan) h = tt
-missing_in held before now overrides sources (Err e) h = λ untold missing. inr (said_by_contents overrides sources e (missing_said e.status _ _ missing h))
+pub missing_in : OutlinesNeverSayMissing → PlansNeverSayMissing → (held : Option Held) (before now : ℕ) (overrides : List Override) (sources : Sources) (r : Answer Plan) →
+    Answers (PlanOfSources overrides sources) r → IfErr r (λ (refusal : Refusal). IsMissed held before now refusal.status)
+missing_in outlines plans held before now overrides sources (Ok plan) h = tt
+missing_in outlines plans held before now overrides sources (Err e) h = λ untold missing.
+    let read = missing_said e.status _ _ missing h in
+    absurd (present_after outlines plans overrides sources e read.answer read.is read.after missing)
 
 -- ---- how a call ends
 

@@ -4,6 +4,7 @@ pub mod ListLoading
 pub mod TextOfTable
 pub mod Runs
 pub mod Messages
+pub mod Present
 pub mod Agreement
 pub mod Causes
 pub mod AskedWords

@@ -1,5 +1,5 @@
 -- What the call of the program promises.
-use Rattle.std.specs.Prelude.{◌≡◌, ◌≢◌, ◌⊎◌, ◌<◌, ⊤, ℕ, List, [], length, ◌+◌, Result, Option, None, option_map, Ok, Err}
+use Rattle.std.specs.Prelude.{◌≡◌, ◌≢◌, ◌⊎◌, ◌<◌, ⊤, ℕ, List, [], length, ◌+◌, Result, Option, option_map, Ok, Err}
 use Rattle.std.specs.Int.{◌∣◌}
 use Rattle.yaml_text.specs.Lines.{Bytes}
 use Rattle.integral_index.specs.declared.Unit.{Unit as SectorUnit}
@@ -16,19 +16,16 @@ use Rattle.table_text.specs.TableText.{table_text, zeros_of}
 use Rattle.job_equations.specs.Equations.{AreEquations}
 use Rattle.job_point.specs.declared.faults.Singular.TheVariants as singular
 use Rattle.job_plan.specs.Outlines.{Outline}
-use Rattle.job_plan.specs.Plans.{Plan, IsPlan}
-use Rattle.job_schema.specs.Overridden.{Override}
-use Rattle.job_point.specs.declared.faults.PlanError.{PlanError}
+use Rattle.job_plan.specs.Plans.{Plan}
 use Rattle.kira_app.specs.declared.job_files.Trees.{Trees}
 use Rattle.kira_app.specs.declared.status.Status.{Status}
 use Rattle.kira_app.specs.declared.status.Status.TheVariants as status
 use Rattle.kira_app.specs.declared.refusal.Refusal.{Refusal}
-use Rattle.kira_app.specs.Steps.{plain}
 use Rattle.kira_app.specs.Message.{message_text, usage_line, IsToldOf}
-use Rattle.kira_app.specs.Told.{IfTold, SaysMissing}
+use Rattle.kira_app.specs.Told.{IfTold}
 use Rattle.kira_app.specs.Words.{AsksUsage, AsksUnserved, job_file, overrides_of}
 use Rattle.kira_app.specs.Sources.{TreesOf, OutlineOf}
-use Rattle.kira_app.specs.Plans.{status_of, PlanOf}
+use Rattle.kira_app.specs.Plans.{PlanOf}
 
 -- ---- the table
 
@@ -193,17 +190,6 @@ pub record IsExplained (words : List Bytes) (held : Option Held) (s : Status) (b
   pub name : Bytes
   pub told : IsToldOf (message_text (job_file words) (record { status = s; name = name })) before after faults faults_after
   pub named : Names s → IfTold held (AreRefusedAs words s name)
-
--- the reading of some trees, or the plan of some outline, has this refusal
-abbrev pub IsSaidByContents : Status → Type 0
-IsSaidByContents s =
-    ((overrides : List Override) × (trees : Trees) × OutlineOf overrides trees (Err (plain s)))
-    ⊎ ((outline : Outline) × (lists : List Bytes) × (e : PlanError) × IsPlan outline lists (Err e) × (s ≡ status_of e))
-
--- Where nothing is told, a file is called missing only if the count rose, or if the reading of some trees or of some
--- list files says so. No schema has this fault; that none has isn't claimed here.
-abbrev pub IsMissedIn : Option Held → ℕ → ℕ → Status → Type 0
-IsMissedIn held before now s = held ≡ None → SaysMissing s → Rose before now ⊎ IsSaidByContents s
 
 -- the two statuses are equal but for the vector or the multipliers that they show
 abbrev pub IsAlike : Status → Status → Type 0

@@ -5,13 +5,13 @@ ghost use Rattle.std.specs.Str.{IsAscii};
 ghost use Rattle.input_schema.specs.Readings as input;
 ghost use Rattle.kira_app.specs.Steps.{Is, OfReading, plain, plainly, texts_of, bytes_of};
 ghost use Rattle.kira_app.specs.Sources.{tree_in, list_of, TreeOf, KinematicsOf, FamiliesOf, TreesOf, ListsOf, OutlineOf, Outlines, SourcesWith, ReadsSources};
-ghost use Rattle.kira_app.specs.TopClauses.{IsMissedIn};
 ghost use Rattle.kira_app.specs.Told.{Tells, Answers, IsMissed, IsPresent};
 
 use crate::job_files::{Sources, Trees};
 use crate::{Refusal, Status};
 use job_plan::{
-    File, InputFault, InputKind, Outline, Override, PlanError, outlines_have_a_modulus,
+    File, InputFault, InputKind, Outline, Override, PlanError, jobs_never_say_missing,
+    outlines_have_a_modulus,
 };
 use kira_outside::{Files, LoadFault};
 use std::alloc::Global;
@@ -197,9 +197,10 @@ fn outlined<F: Files>(
 ) -> Result<(Trees, Outline), Status>
     ensures outlines { Tells (F.held files.old) (F.faults files.old) (F.faults files.new) (Outlines overrides.now jobfile.now) (plainly result) }
     ensures outline { IfOk result (λ both. OutlineOf overrides.now both.0 (Ok both.1)) }
-    ensures missing { IfErr result (IsMissedIn (F.held files.old) (F.faults files.old) (F.faults files.new)) }
+    ensures missing { IfErr result (IsMissed (F.held files.old) (F.faults files.old) (F.faults files.new)) }
     ensures same { F.held files.new ≡ F.held files.old }
 {
+    jobs_never_say_missing();
     let trees = load_trees(alloc, files, jobfile)?;
     let outline = outline(alloc, &trees, overrides)?;
     Ok((trees, outline))
@@ -236,7 +237,7 @@ pub fn sources<F: Files>(
     files: &mut F,
 ) -> Result<Sources, Refusal>
     ensures sources { Tells (F.held files.old) (F.faults files.old) (F.faults files.new) (ReadsSources overrides.now jobfile.now) result }
-    ensures missing { IfErr result (λ refusal. IsMissedIn (F.held files.old) (F.faults files.old) (F.faults files.new) refusal.status) }
+    ensures missing { IfErr result (λ refusal. IsMissed (F.held files.old) (F.faults files.old) (F.faults files.new) refusal.status) }
     ensures same { F.held files.new ≡ F.held files.old }
 {
     match outlined(alloc, files, jobfile, overrides) {

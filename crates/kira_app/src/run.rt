@@ -18,7 +18,8 @@ use step_counter::Steps;
 /// # Errors
 ///
 /// `Composite` only with a divisor of the modulus that lies between 1 and it; the board then stands after
-/// the events so far. After `OutOfMemory` the board is to be opened again.
+/// some events. After `OutOfMemory` the board is to be opened again. Its modulus and its order stay in any
+/// case.
 pub fn run_alone<L: Ledger>(
     board: &mut Board,
     modulus: Modulus,
@@ -30,8 +31,8 @@ pub fn run_alone<L: Ledger>(
         LeadOn board.old.modulus board.old.order board.old.state events board.new.state) }
     ensures steps { OnOk result
         (steps.new + forward_count board.old.state ≡ steps.old + length board.old.state.units) }
-    ensures modulus { OnOk result (board.new.modulus ≡ board.old.modulus) }
-    ensures order { OnOk result (board.new.order ≡ board.old.order) }
+    ensures modulus { board.new.modulus ≡ board.old.modulus }
+    ensures order { board.new.order ≡ board.old.order }
     ensures stopped { IfErr result (HasRunOrWantsMemory board.old board.new) }
     ensures cause { IfErr result (HasCause modulus) }
 {
@@ -53,6 +54,8 @@ fn take_turn<L: Ledger>(
     requires modulus { task.modulus ≡ board.old.modulus }
     requires serves { Serves board.old.modulus board.old.order board.old.state task }
     ensures next { OnOk result (IsNext board.old steps.old board.new steps.new) }
+    ensures modulus { board.new.modulus ≡ board.old.modulus }
+    ensures order { board.new.order ≡ board.old.order }
     ensures stopped { IfErr result (HasRunOrWantsMemory board.old board.new) }
     ensures cause { IfErr result (HasCause board.old.modulus) }
 {

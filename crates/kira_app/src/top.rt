@@ -13,10 +13,10 @@ ghost use Rattle.table_text.specs.Sending.{sent, IsPrefixSent};
 ghost use Rattle.kira_app.specs.declared.status.Status.{Status as StatusValue};
 ghost use Rattle.kira_app.specs.Steps.{plain};
 ghost use Rattle.kira_app.specs.Message.{message_text, usage_line, IsToldOf};
-ghost use Rattle.kira_app.specs.Told.{IfTold, Tells};
+ghost use Rattle.kira_app.specs.Told.{IfTold, Tells, IsMissed};
 ghost use Rattle.kira_app.specs.Words.{AsksCall, AsksHelp, AsksUsage, AsksJob, AsksUnserved, AreAnswered, IsServedJob};
 ghost use Rattle.kira_app.specs.Plans.{PlanOf};
-ghost use Rattle.kira_app.specs.TopClauses.{IsTextOf, IsSent, IsPartlySent, TakesUnits, StandsStill, HavePlan, AreRefused, IsDivisorIn, IsPrime, IsMissedIn, HasCause, HasEnded, HasShown, IsExplained, IsAnsweredBy};
+ghost use Rattle.kira_app.specs.TopClauses.{IsTextOf, IsSent, IsPartlySent, TakesUnits, StandsStill, HavePlan, AreRefused, IsDivisorIn, IsPrime, HasCause, HasEnded, HasShown, IsExplained, IsAnsweredBy};
 
 use crate::laws::jobs_agree;
 use crate::loading::sources;
@@ -24,7 +24,7 @@ use crate::message::usage_line;
 use crate::reduction::table_of;
 use crate::words::{ServedJob, Wanted, read_words};
 use crate::{Refusal, Status, tell};
-use job_plan::Plan;
+use job_plan::{Plan, jobs_never_say_missing};
 use kira_outside::{Files, Sink};
 use std::alloc::Global;
 use std::sync::ledger::Ledger;
@@ -34,9 +34,10 @@ use table_text::send;
 // The plan that the job of some words and the files give.
 fn plan_of<F: Files>(alloc: Global, job: &ServedJob, files: &mut F) -> Result<Plan, Refusal>
     ensures plan { (words : List Bytes) → IsServedJob words job.now → Tells (F.held files.old) (F.faults files.old) (F.faults files.new) (PlanOf words) result }
-    ensures missing { IfErr result (λ refusal. IsMissedIn (F.held files.old) (F.faults files.old) (F.faults files.new) refusal.status) }
+    ensures missing { IfErr result (λ refusal. IsMissed (F.held files.old) (F.faults files.old) (F.faults files.new) refusal.status) }
     ensures same { F.held files.new ≡ F.held files.old }
 {
+    jobs_never_say_missing();
     let sources = sources(alloc, job.job_file, &job.overrides, files)?;
     sources.plan(&job.overrides)
 }
@@ -61,7 +62,7 @@ fn ended<F: Files, O: Sink, L: Ledger>(
       steps = steps.old;
       steps_after = steps.new;
     }) result }
-    ensures missing { IfErr result (λ refusal. IsMissedIn (F.held files.old) (F.faults files.old) (F.faults files.new) refusal.status) }
+    ensures missing { IfErr result (λ refusal. IsMissed (F.held files.old) (F.faults files.old) (F.faults files.new) refusal.status) }
     ensures still { IfErr result (λ refusal. StandsStill steps.old steps.new refusal.status) }
     ensures silent { IfErr result (λ refusal. refusal.status ≢ Status.WriteFault → out.new ≡ out.old) }
     ensures same { F.held files.new ≡ F.held files.old }
@@ -138,7 +139,7 @@ pub fn kira_alone<F: Files, O: Sink, E: Sink, L: Ledger>(
     ensures usage { result ≡ Status.Usage → AsksUsage (map string_bytes words.now) }
     ensures not_yet { result ≡ Status.NotYet → AsksUnserved (map string_bytes words.now) }
     ensures input { (fault : InputFault) → result ≡ Status.Input fault → IfTold (F.held files.old) (AreRefused (map string_bytes words.now) (Status.Input fault)) }
-    ensures missing { IsMissedIn (F.held files.old) (F.faults files.old) (F.faults files.new) result }
+    ensures missing { IsMissed (F.held files.old) (F.faults files.old) (F.faults files.new) result }
     ensures singular { (cause : Singular) → result ≡ Status.Singular cause → IfTold (F.held files.old) (AreRefused (map string_bytes words.now) (Status.Singular cause)) }
     ensures rules_clash { (multipliers : List ℕ) (residue : ℕ) → result ≡ Status.RulesClash multipliers residue
         → IfTold (F.held files.old) (AreRefused (map string_bytes words.now) (Status.RulesClash multipliers residue)) }

@@ -1,3 +1,4 @@
 pub mod Cutting
 pub mod LineSteps
 pub mod PieceLaws
+mod Present

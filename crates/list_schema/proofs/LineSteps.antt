@@ -6,8 +6,7 @@ use Rattle.yaml_text.specs.Lines.{Bytes, is_empty, skip, cut, bare}
 use Rattle.input_schema.specs.declared.faults.File.{File}
 use Rattle.input_schema.specs.declared.faults.SchemaError.{SchemaError}
 use Rattle.input_schema.specs.declared.faults.SchemaError.TheVariants.{Fault, OutOfMemory}
-use Rattle.input_schema.specs.Readings.{Outcome, Reading, Is, Refuses, Answers}
-use Rattle.list_schema.specs.Readings.{each}
+use Rattle.input_schema.specs.Readings.{Outcome, Reading, Is, Refuses, Answers, each}
 use Rattle.list_schema.specs.Lists.{Line, on_line, lines_from, list_file}
 
 -- what `?` answers for an error of a part

@@ -6,9 +6,8 @@ use Rattle.yaml_text.specs.Lines.{Bytes, onto_first, skip, trim_end}
 use Rattle.kinematics.specs.Tokens.{number_of}
 use Rattle.input_schema.specs.declared.faults.File.{File}
 use Rattle.input_schema.specs.declared.faults.InputKind.TheVariants.{OutOfRange}
-use Rattle.input_schema.specs.Readings.{Outcome, refuse}
+use Rattle.input_schema.specs.Readings.{Outcome, refuse, each}
 use Rattle.input_schema.specs.Numbers.{is_negative, is_number, unsigned}
-use Rattle.list_schema.specs.Readings.{each}
 
 -- What stands between the commas, of which each ends a piece: a text without a comma is one piece.
 unfoldable pub pieces : Bytes → List Bytes

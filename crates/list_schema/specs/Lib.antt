@@ -1,4 +1,3 @@
-pub mod Readings
 pub mod Indices
 pub mod Lists
 pub mod Laws

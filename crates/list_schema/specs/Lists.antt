@@ -8,9 +8,8 @@ use Rattle.kinematics.specs.Names.{is_name}
 use Rattle.kinematics.specs.Tokens.{is_name_byte}
 use Rattle.input_schema.specs.declared.faults.File.{File}
 use Rattle.input_schema.specs.declared.faults.InputKind.TheVariants.{BadLine, UnknownName, WrongCount}
-use Rattle.input_schema.specs.Readings.{Outcome, refuse, ◌>>=◌}
+use Rattle.input_schema.specs.Readings.{Outcome, refuse, ◌>>=◌, each}
 use Rattle.integral_index.specs.Integral.{Integral}
-use Rattle.list_schema.specs.Readings.{each}
 use Rattle.list_schema.specs.Indices.{pieces, is_index, indices}
 
 -- ---- the form of a line

@@ -1,8 +1,8 @@
-use Rattle.std.proofs.Common.{◌≡◌, ◌∙◌, List, map, ap, sym}
+use Rattle.std.proofs.Common.{◌∙◌, map, ap}
 use Rattle.job_point.proofs.StepLemmas.{refused}
 use Rattle.job_plan.specs.Gathering.{AreIntegrals}
 use Rattle.job_plan.specs.Outlines.{Outline}
-use Rattle.job_plan.proofs.GatheringLemmas.{AreFound, integrals_found, integrals_refused, seeds_placed}
+use Rattle.job_plan.proofs.GatheringLemmas.{integrals_found, integrals_refused, seeds_placed}
 use Rattle.job_plan.proofs.gathering.integrals_of.Goals as goal
 
 pub test_terms-requires-clause-seeds : goal.test_terms-requires-clause-seeds

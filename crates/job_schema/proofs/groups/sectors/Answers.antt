@@ -2,9 +2,8 @@
 use Rattle.std.proofs.Common.{◌≡◌, ◌<◌, ◌≤◌, ◌↔◌, ℕ, [], List, length, All, Contains, subst, sym}
 use Rattle.yaml_text.specs.declared.tree.Tree.{Tree}
 use Rattle.input_schema.specs.declared.faults.File.TheVariants.{Jobs}
-use Rattle.input_schema.specs.Readings.{Outcome, Gives, ◌>>=◌}
+use Rattle.input_schema.specs.Readings.{Outcome, Gives, ◌>>=◌, each}
 use Rattle.input_schema.specs.Nodes.{items}
-use Rattle.job_schema.specs.Readings.{each}
 use Rattle.job_schema.specs.Specs.{sector, no_limit}
 use Rattle.job_schema.proofs.Families.{All-same, some_same, sector-same}
 use Rattle.job_schema.proofs.groups.sectors.Goals as goal

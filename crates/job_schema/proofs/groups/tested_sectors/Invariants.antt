@@ -1,6 +1,6 @@
 use Rattle.std.proofs.Common.{◌≡◌, [], drop}
+use Rattle.input_schema.specs.Readings.{each}
 use Rattle.job_schema.specs.Specs.{sector}
-use Rattle.job_schema.specs.Readings.{each}
 use Rattle.job_schema.proofs.groups.tested_sectors.Given as goal
 
 abbrev pub invariant-loop-item : goal.invariant-loop-item

@@ -1,7 +1,7 @@
 use Rattle.std.proofs.Common.{◌≡◌, ◌<◌, [], drop, length, All}
 use Rattle.input_schema.specs.declared.faults.File.TheVariants.{Jobs}
 use Rattle.input_schema.specs.Names.{reference}
-use Rattle.job_schema.specs.Readings.{each}
+use Rattle.input_schema.specs.Readings.{each}
 use Rattle.job_schema.proofs.groups.topologies.Given as goal
 
 abbrev pub invariant-loop-item : goal.invariant-loop-item

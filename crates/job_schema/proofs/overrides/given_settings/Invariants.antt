@@ -1,6 +1,6 @@
 use Rattle.std.proofs.Common.{◌≡◌, [], drop}
+use Rattle.input_schema.specs.Readings.{each}
 use Rattle.job_schema.specs.Overrides.{given}
-use Rattle.job_schema.specs.Readings.{each}
 use Rattle.job_schema.proofs.overrides.given_settings.Given as goal
 
 abbrev pub invariant-loop-setting : goal.invariant-loop-setting

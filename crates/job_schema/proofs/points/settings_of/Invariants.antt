@@ -1,6 +1,6 @@
 use Rattle.std.proofs.Common.{◌≡◌, [], drop}
+use Rattle.input_schema.specs.Readings.{each}
 use Rattle.job_schema.specs.Jobs.{setting_of}
-use Rattle.job_schema.specs.Readings.{each}
 use Rattle.job_schema.proofs.points.settings_of.Given as goal
 
 abbrev pub invariant-loop-name : goal.invariant-loop-name

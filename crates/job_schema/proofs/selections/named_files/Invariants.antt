@@ -1,6 +1,6 @@
 use Rattle.std.proofs.Common.{◌≡◌, [], drop}
+use Rattle.input_schema.specs.Readings.{each}
 use Rattle.job_schema.specs.Jobs.{list_file}
-use Rattle.job_schema.specs.Readings.{each}
 use Rattle.job_schema.proofs.selections.named_files.Given as goal
 
 abbrev pub invariant-loop-item : goal.invariant-loop-item

@@ -1,11 +1,12 @@
-use Rattle.std.proofs.Common.{Ok, List, inl, inr, refl}
+use Rattle.std.proofs.Common.{Ok, List, refl}
 use Rattle.job_schema.specs.Overridden.{Override}
 use Rattle.job_plan.specs.Outlines.{Outline}
 use Rattle.kira_app.specs.declared.job_files.Trees.{Trees}
 use Rattle.kira_app.specs.Steps.{Step, Is, Then, plain}
+use Rattle.kira_app.specs.Told.{IsMissed}
 use Rattle.kira_app.specs.Sources.{TreesOf, OutlineOf, Outlines}
-use Rattle.kira_app.specs.TopClauses.{IsMissedIn}
 use Rattle.kira_app.proofs.Told.{weaker, then_is, err_plain, of_error, refused_then, told_later, missing_said}
+use Rattle.kira_app.proofs.Present.{outline_present}
 use Rattle.kira_app.proofs.loading.outlined.Goals as goal
 
 -- what follows an outline, and what follows the trees
@@ -16,7 +17,7 @@ abbrev Outlined : List Override → Trees → Step (Trees × Outline)
 Outlined overrides trees = Then (OutlineOf overrides trees) (Both trees)
 
 pub returns-in_err-trees-clause-missing : goal.returns-in_err-trees-clause-missing
-returns-in_err-trees-clause-missing g c = of_error _ _ (IsMissedIn _ _ _) c.from_residual.ensures.1 (λ untold missing. inl (c.in_err-trees.ensures.missing untold missing))
+returns-in_err-trees-clause-missing g c = of_error _ _ (IsMissed _ _ _) c.from_residual.ensures.1 c.in_err-trees.ensures.missing
 
 pub returns-in_err-outline-clause-outlines : goal.returns-in_err-outline-clause-outlines
 returns-in_err-outline-clause-outlines g c =
@@ -26,8 +27,9 @@ returns-in_err-outline-clause-outlines g c =
 
 pub returns-in_err-outline-clause-missing : goal.returns-in_err-outline-clause-missing
 returns-in_err-outline-clause-missing g c =
-    of_error _ _ (IsMissedIn _ _ _) c.from_residual-in_err-outline.ensures.1
-    (λ untold missing. inr (inl (c.args.overrides.now, c.in_ok-trees.trees, missing_said _ _ _ missing c.in_err-outline.ensures)))
+    of_error _ _ (IsMissed _ _ _) c.from_residual-in_err-outline.ensures.1
+    (λ untold missing. absurd (outline_present c.jobs_never_say_missing.ensures.outlines c.args.overrides.now c.in_ok-trees.trees (plain _)
+    (missing_said _ _ _ missing c.in_err-outline.ensures) missing))
 
 pub returns-clause-outlines : goal.returns-clause-outlines
 returns-clause-outlines g c =

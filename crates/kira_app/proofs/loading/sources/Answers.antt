@@ -1,10 +1,9 @@
-use Rattle.std.proofs.Common.{◌∙◌, inl, sym, subst}
+use Rattle.std.proofs.Common.{◌∙◌, sym, subst}
 use Rattle.std.proofs.lemmas.Result.{IfErr-weaker}
 use Rattle.kira_outside.specs.Faults.{Rose}
 use Rattle.kira_app.specs.declared.refusal.Refusal.{Refusal}
 use Rattle.kira_app.specs.Sources.{Outlines, SourcesWith}
 use Rattle.kira_app.specs.Told.{IsMissed}
-use Rattle.kira_app.specs.TopClauses.{IsMissedIn}
 use Rattle.kira_app.proofs.Told.{goes_on}
 use Rattle.kira_app.proofs.loading.sources.Goals as goal
 
@@ -20,12 +19,12 @@ returns-in-Ok-clause-missing g c =
     let held = g.F.Files.held c.args.files.now in
     let before = g.F.Files.faults c.args.files.now in
     let now = g.F.Files.faults c.with_lists.new.files in
-    IfErr-weaker c.with_lists.result (λ (r : Refusal). IsMissed (g.F.Files.held c.outlined.new.files) (g.F.Files.faults c.outlined.new.files) now r.status) (λ (r : Refusal). IsMissedIn held before now r.status)
-    (λ r missed untold missing. inl (subst (λ b. Rose b now) first.outlines.1 (missed (first.same ∙ untold) missing))) c.with_lists.ensures.missing
+    IfErr-weaker c.with_lists.result (λ (r : Refusal). IsMissed (g.F.Files.held c.outlined.new.files) (g.F.Files.faults c.outlined.new.files) now r.status) (λ (r : Refusal). IsMissed held before now r.status)
+    (λ r missed untold missing. subst (λ b. Rose b now) first.outlines.1 (missed (first.same ∙ untold) missing)) c.with_lists.ensures.missing
 
 pub returns-in-Err-clause-missing : goal.returns-in-Err-clause-missing
 returns-in-Err-clause-missing g c =
     let held = g.F.Files.held c.args.files.now in
     let before = g.F.Files.faults c.args.files.now in
     let now = g.F.Files.faults c.outlined.new.files in
-    subst (λ (r : Refusal). IsMissedIn held before now r.status) (sym c.plain.ensures) c.in-Err.ensures.missing
+    subst (λ (r : Refusal). IsMissed held before now r.status) (sym c.plain.ensures) c.in-Err.ensures.missing

@@ -1,5 +1,6 @@
 use Rattle.kira_app.specs.declared.refusal.Refusal.{Refusal}
-use Rattle.kira_app.specs.TopClauses.{IsMissedIn, StandsStill}
+use Rattle.kira_app.specs.Told.{IsMissed}
+use Rattle.kira_app.specs.TopClauses.{StandsStill}
 use Rattle.kira_app.proofs.ListLoading.{err_refusal}
 use Rattle.kira_app.proofs.Causes.{plan_caused, reduction_caused, plainly_caused, err_ended, no_step, broken_off}
 use Rattle.kira_app.proofs.top.ended.Goals as goal
@@ -11,7 +12,7 @@ returns-in_err-plan-clause-cause g c =
     err_ended _ _ refusal c.from_residual.ensures.1 (plan_caused c.jobs_agree.ensures.divisors _ refusal.status refusal.name (c.in_err-plan.ensures.plan words is))
 
 pub returns-in_err-plan-clause-missing : goal.returns-in_err-plan-clause-missing
-returns-in_err-plan-clause-missing g c = err_refusal _ _ (λ (r : Refusal). IsMissedIn _ _ _ r.status) c.from_residual.ensures.1 c.in_err-plan.ensures.missing
+returns-in_err-plan-clause-missing g c = err_refusal _ _ (λ (r : Refusal). IsMissed _ _ _ r.status) c.from_residual.ensures.1 c.in_err-plan.ensures.missing
 
 pub returns-clause-cause : goal.returns-clause-cause
 returns-clause-cause g c =

@@ -1,6 +1,6 @@
 use Rattle.std.proofs.Common.{◌∙◌}
 use Rattle.kira_app.specs.declared.refusal.Refusal.{Refusal}
-use Rattle.kira_app.specs.TopClauses.{IsMissedIn}
+use Rattle.kira_app.specs.Told.{IsMissed}
 use Rattle.kira_app.proofs.ListLoading.{err_refusal}
 use Rattle.kira_app.proofs.Told.{err_told}
 use Rattle.kira_app.proofs.Causes.{plan_told, sources_refused, missing_in}
@@ -8,7 +8,7 @@ use Rattle.kira_app.specs.Plans.{PlanOf}
 use Rattle.kira_app.proofs.top.plan_of.Goals as goal
 
 pub returns-in_err-sources-clause-missing : goal.returns-in_err-sources-clause-missing
-returns-in_err-sources-clause-missing g c = err_refusal _ _ (λ (r : Refusal). IsMissedIn _ _ _ r.status) c.from_residual.ensures.1 c.in_err-sources.ensures.missing
+returns-in_err-sources-clause-missing g c = err_refusal _ _ (λ (r : Refusal). IsMissed _ _ _ r.status) c.from_residual.ensures.1 c.in_err-sources.ensures.missing
 
 pub returns-in_err-sources-clause-plan : goal.returns-in_err-sources-clause-plan
 returns-in_err-sources-clause-plan g c = λ words is.
@@ -23,4 +23,4 @@ returns-clause-plan g c = λ words is.
     is.called is.served (c.deref.ensures.value ∙ is.overrides) (c.deref-2.ensures.value ∙ is.overrides) is.job_file found.1 found.0 c.plan.ensures
 
 pub returns-clause-missing : goal.returns-clause-missing
-returns-clause-missing g c = missing_in _ _ _ c.deref-2.result.now c.in_ok-sources.sources c.plan.result c.plan.ensures
+returns-clause-missing g c = missing_in c.jobs_never_say_missing.ensures.outlines c.jobs_never_say_missing.ensures.plans _ _ _ c.deref-2.result.now c.in_ok-sources.sources c.plan.result c.plan.ensures

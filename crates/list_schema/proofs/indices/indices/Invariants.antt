@@ -1,6 +1,6 @@
 use Rattle.std.proofs.Common.{◌≡◌, ◌+◌, [], length, All}
 use Rattle.integral_index.specs.Integral.{IsIndex}
-use Rattle.list_schema.specs.Readings.{each}
+use Rattle.input_schema.specs.Readings.{each}
 use Rattle.list_schema.specs.Indices.{pieces, index}
 use Rattle.list_schema.proofs.indices.indices.Given as goal
 

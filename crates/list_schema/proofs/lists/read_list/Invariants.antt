@@ -1,7 +1,7 @@
 use Rattle.std.proofs.Common.{◌≡◌, ◌≤◌, ◌+◌, length}
 use Rattle.yaml_text.specs.Lines.{cut}
 use Rattle.input_schema.specs.declared.faults.File.TheVariants.{List as ListNumber}
-use Rattle.list_schema.specs.Readings.{each}
+use Rattle.input_schema.specs.Readings.{each}
 use Rattle.list_schema.specs.Lists.{on_line, lines_from, list_file}
 use Rattle.list_schema.proofs.lists.read_list.Given as goal
 
