@@ -93,23 +93,43 @@ def refuses(program, folder, message):
     return ends(program, folder, []) == (3, b"", f"kira: {message}\n".encode())
 
 
-def check_refusals(program):
-    """The built program refuses each file of the table, and one that is too long, with its message."""
+def rows_of(table):
+    """The cells of each row of a table of examples/refused."""
+    text = (TOP / "examples" / "refused" / table).read_text()
+    return [row.split("\t") for row in text.splitlines() if not row.startswith("#")]
+
+
+def refuses_edited(program, name, first, count, with_text, message):
+    """The program refuses the job of examples/refused with these lines of this file replaced."""
     source = TOP / "examples" / "refused"
-    rows = [row.split("\t") for row in (source / "refusals.tsv").read_text().splitlines() if not row.startswith("#")]
-    for name, first, count, message, text in rows:
-        with tempfile.TemporaryDirectory() as place:
-            folder = pathlib.Path(shutil.copytree(source, place, dirs_exist_ok=True))
-            with_text = text.encode().decode("unicode_escape")
-            (folder / name).write_text(edited((source / name).read_text(), int(first), int(count), with_text))
-            if not refuses(program, folder, f"{name}:{message}"):
-                fail(f"examples/refused/refusals.tsv: {name} with {text[:60]} isn't refused with {message}")
+    with tempfile.TemporaryDirectory() as place:
+        folder = pathlib.Path(shutil.copytree(source, place, dirs_exist_ok=True))
+        (folder / name).write_text(edited((source / name).read_text(), int(first), int(count), with_text))
+        return refuses(program, folder, f"{name}:{message}")
+
+
+def check_refusals(program):
+    """The built program refuses each file of the tables, and one that is too long, with its message."""
+    for name, first, count, message, text in rows_of("refusals.tsv"):
+        if not refuses_edited(program, name, first, count, text.encode().decode("unicode_escape"), message):
+            fail(f"examples/refused/refusals.tsv: {name} with {text[:60]} isn't refused with {message}")
+    for name, first, count, items, item, head in rows_of("long_lists.tsv"):
+        text = head + ", ".join([item] * int(items)) + "]"
+        if not refuses_edited(program, name, first, count, text, f"{first}: out of range"):
+            fail(f"examples/refused/long_lists.tsv: {items} items behind {head} aren't refused")
     for name in ("jobs.yaml", "config/integralfamilies.yaml", "config/kinematics.yaml"):
-        with tempfile.TemporaryDirectory() as place:
-            folder = pathlib.Path(shutil.copytree(source, place, dirs_exist_ok=True))
-            (folder / name).write_bytes(b"#" * (2**24 + 1))
-            if not refuses(program, folder, f"{name}:0: longer than 16777216 bytes"):
-                fail(f"examples/refused: {name} with a byte too many isn't refused")
+        if not refuses_edited(program, name, 1, 99, "#" * (2**24 + 1), "0: longer than 16777216 bytes"):
+            fail(f"examples/refused: {name} with a byte too many isn't refused")
+
+
+def check_words(program):
+    """The job of examples/refused is accepted but for its list file, and refused with each row of words."""
+    source = TOP / "examples" / "refused"
+    rows = [["listed:0: no such file", "jobs.yaml s=-1/2 d=4 prime=7"], *rows_of("words.tsv")]
+    for message, words in rows:
+        run = subprocess.run([program, *words.split(" ")], cwd=source, capture_output=True)
+        if (run.returncode, run.stdout, run.stderr) != (3, b"", f"kira: {message}\n".encode()):
+            fail(f"examples/refused/words.tsv: {words} isn't refused with {message}")
 
 
 def check_divisors(program):
@@ -135,6 +155,7 @@ def check_program():
         print("crates/kira/out/kira isn't built: the refused files were not tried")
         return
     check_refusals(program)
+    check_words(program)
     check_divisors(program)
 
 

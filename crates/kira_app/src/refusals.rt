@@ -1,13 +1,9 @@
-//! Refused words and files, each with the message that docs/FORMATS.md asks for, worked out by hand: a
-//! job with every key is accepted, and is refused once some of its lines are replaced.
-
-mod family_faults;
-mod job_faults;
-mod kinematics_faults;
-mod several_faults;
-mod word_faults;
+//! Faults of which two stand in the files or the words at once, files that are missing or too long, and faults of the
+//! tadpole's files, each with the message that docs/FORMATS.md asks for, worked out by hand. Single faults of the
+//! same job, some 350, are tried with the built program: examples/refused has them.
 
 use super::*;
+use crate::test_jobs::TADPOLE;
 use crate::tests::{Ending, call_with, entry, plain_sink};
 use kira_outside::MemoryFiles;
 use std::alloc::Global;
@@ -82,58 +78,6 @@ const ACCEPTED: Texts<'static> = Texts {
     kinematics: KINEMATICS,
 };
 
-// The file that a test changes.
-#[derive(Clone, Copy)]
-enum Changed {
-    Jobs,
-    Families,
-    Kinematics,
-}
-
-impl Changed {
-    // Its accepted text.
-    fn accepted(self) -> &'static str {
-        match self {
-            Changed::Jobs => JOBS,
-            Changed::Families => FAMILIES,
-            Changed::Kinematics => KINEMATICS,
-        }
-    }
-
-    // Its name in a message.
-    fn place(self) -> &'static str {
-        match self {
-            Changed::Jobs => "jobs.yaml:",
-            Changed::Families => "config/integralfamilies.yaml:",
-            Changed::Kinematics => "config/kinematics.yaml:",
-        }
-    }
-
-    // The accepted texts with this one in its place.
-    fn with<'a>(self, text: &'a str) -> Texts<'a> {
-        match self {
-            Changed::Jobs => Texts {
-                jobs: text,
-                ..ACCEPTED
-            },
-            Changed::Families => Texts {
-                families: text,
-                ..ACCEPTED
-            },
-            Changed::Kinematics => Texts {
-                kinematics: text,
-                ..ACCEPTED
-            },
-        }
-    }
-}
-
-// The first line that is replaced, how many are, what stands in their place, and the message's end.
-type Edit = (usize, usize, &'static str, &'static str);
-
-// The same with a list: its head, its item, and how often the item stands in it, once too often.
-type LongList = (usize, usize, &'static str, &'static str, usize);
-
 // A call with these words over these files.
 fn call(alloc: Global, texts: Texts<'_>, words: &str) -> Result<Ending, Fail> {
     let mut entries = Vec::new(alloc);
@@ -160,28 +104,6 @@ fn refuses(alloc: Global, ended: &Ending, place: &str, rest: &str) -> Result<boo
     )
 }
 
-// Whether the job is refused with this message once the file has this text.
-fn text_is_refused(alloc: Global, file: Changed, text: &str, rest: &str) -> Result<bool, Fail> {
-    let ended = call(alloc, file.with(text), "jobs.yaml")?;
-    refuses(alloc, &ended, file.place(), rest)
-}
-
-// Whether the job is refused with the edit's message once the file is edited.
-fn edit_is_refused(alloc: Global, file: Changed, edit: Edit) -> Result<bool, Fail> {
-    let (first, count, with, rest) = edit;
-    let text = edited(alloc, file.accepted(), first, count, with)?;
-    text_is_refused(alloc, file, text.as_str(), rest)
-}
-
-// Whether a list that is one item too long is told at its own line.
-fn long_list_is_refused(alloc: Global, file: Changed, list: LongList) -> Result<bool, Fail> {
-    let (line, lines, head, item, count) = list;
-    let with = long_list(alloc, head, item, count)?;
-    let text = edited(alloc, file.accepted(), line, lines, with.as_str())?;
-    let rest = format!(in alloc; "{line}: out of range")?;
-    text_is_refused(alloc, file, text.as_str(), rest.as_str())
-}
-
 // The text with so many lines from this one on replaced.
 fn edited(
     alloc: Global,
@@ -206,24 +128,244 @@ fn edited(
     Ok(made)
 }
 
-// A list with the item so many times behind this head.
-fn long_list(alloc: Global, head: &str, item: &str, count: usize) -> Result<String, Fail> {
-    let mut made = String::from_str(alloc, head)?;
-    for i in 0..count {
-        if 0 < i {
-            made.push_str(", ")?;
-        }
-        made.push_str(item)?;
-    }
-    made.push_str("]")?;
-    Ok(made)
-}
-
 // Only the list file that it names is missing.
 #[test]
 fn the_job_with_every_key_is_accepted(rt: HostRuntime) -> Result<(), Fail> {
     let alloc = rt.alloc();
     let ended = call(alloc, ACCEPTED, "jobs.yaml s=-1/2 d=4 prime=7")?;
     assert!(rt; refuses(alloc, &ended, "listed:", "0: no such file")?);
+    Ok(())
+}
+
+// A text that is no YAML of the profile.
+const NO_YAML: &str = "\tx";
+
+// The texts of the jobs, the families and the kinematics, the words, and the message.
+const TWO_FAULTS: [(&str, &str, &str, &str, &str); 7] = [
+    (
+        NO_YAML,
+        NO_YAML,
+        KINEMATICS,
+        "jobs.yaml",
+        "jobs.yaml:1: a tab outside comments",
+    ),
+    (
+        "{}",
+        NO_YAML,
+        NO_YAML,
+        "jobs.yaml",
+        "config/integralfamilies.yaml:1: a tab outside comments",
+    ),
+    (
+        "{}",
+        "{}",
+        NO_YAML,
+        "jobs.yaml",
+        "config/kinematics.yaml:1: a tab outside comments",
+    ),
+    (
+        "{}",
+        "{}",
+        "{}",
+        "jobs.yaml",
+        "config/kinematics.yaml:1: a key is missing",
+    ),
+    (
+        "{}",
+        "{}",
+        KINEMATICS,
+        "jobs.yaml x",
+        "config/integralfamilies.yaml:1: a key is missing",
+    ),
+    (
+        "{}",
+        FAMILIES,
+        KINEMATICS,
+        "jobs.yaml x",
+        "jobs.yaml:1: a key is missing",
+    ),
+    (
+        JOBS,
+        FAMILIES,
+        KINEMATICS,
+        "jobs.yaml x",
+        "words:2: not NAME=VALUE",
+    ),
+];
+
+// YAML faults come first, in the order in which the files are loaded; then the kinematics, the families,
+// the jobs and the words.
+#[test]
+fn faults_of_two_files(rt: HostRuntime) -> Result<(), Fail> {
+    let alloc = rt.alloc();
+    for (jobs, families, kinematics, words, message) in TWO_FAULTS {
+        let texts = Texts {
+            jobs,
+            families,
+            kinematics,
+        };
+        let ended = call(alloc, texts, words)?;
+        assert!(rt; refuses(alloc, &ended, message, "")?, "{message}");
+    }
+    Ok(())
+}
+
+// A parameter without a value is told behind the faults of the words, and a sector outside the top level
+// sectors behind one that the family doesn't have.
+#[test]
+fn faults_that_two_places_make(rt: HostRuntime) -> Result<(), Fail> {
+    let alloc = rt.alloc();
+    let text = edited(alloc, JOBS, 20, 1, "")?;
+    let texts = Texts {
+        jobs: text.as_str(),
+        ..ACCEPTED
+    };
+    let ended = call(alloc, texts, "jobs.yaml s=x")?;
+    assert!(rt; refuses(alloc, &ended, "words:2: not a number", "")?);
+    let ended = call(alloc, texts, "jobs.yaml s=1")?;
+    assert!(rt; refuses(alloc, &ended, "jobs.yaml:19: no value given", "")?);
+    let ended = call(alloc, texts, "jobs.yaml d=1")?;
+    assert!(rt; refuses(alloc, &ended, "listed:", "0: no such file")?);
+
+    let text = edited(alloc, FAMILIES, 4, 1, "    top_level_sectors: [1]")?;
+    let texts = Texts {
+        families: text.as_str(),
+        ..ACCEPTED
+    };
+    let ended = call(alloc, texts, "jobs.yaml")?;
+    assert!(rt;
+        refuses(
+            alloc,
+            &ended,
+            "jobs.yaml:5: sector outside the top level sectors",
+            ""
+        )?
+    );
+    Ok(())
+}
+
+// The files that aren't held, and a file with one byte too many. One with just as many is read.
+#[test]
+fn missing_and_long_files(rt: HostRuntime) -> Result<(), Fail> {
+    let alloc = rt.alloc();
+    let names = [
+        "jobs.yaml",
+        "config/integralfamilies.yaml",
+        "config/kinematics.yaml",
+    ];
+    let texts = [JOBS, FAMILIES, KINEMATICS];
+    for missing in 0..3usize {
+        let mut entries = Vec::new(alloc);
+        for i in 0..missing {
+            entries.push(entry(alloc, names[i], texts[i].as_bytes())?)?;
+        }
+        let mut out = plain_sink(alloc)?;
+        let mut files = MemoryFiles::new(entries, Vec::new(alloc));
+        let ended = call_with(alloc, "jobs.yaml", &mut files, &mut out)?;
+        assert!(rt; refuses(alloc, &ended, names[missing], ":0: no such file")?);
+    }
+    for (length, rest) in [
+        (16777217usize, "jobs.yaml:0: longer than 16777216 bytes"),
+        (16777216, "jobs.yaml:1: the value has the wrong shape"),
+    ] {
+        let bytes = vec![in alloc; b'#'; length]?;
+        let mut entries = Vec::new(alloc);
+        entries.push(entry(alloc, "jobs.yaml", &bytes)?)?;
+        entries.push(entry(alloc, "config/integralfamilies.yaml", FAMILIES.as_bytes())?)?;
+        entries.push(entry(alloc, "config/kinematics.yaml", KINEMATICS.as_bytes())?)?;
+        let mut out = plain_sink(alloc)?;
+        let mut files = MemoryFiles::new(entries, Vec::new(alloc));
+        let ended = call_with(alloc, "jobs.yaml", &mut files, &mut out)?;
+        assert!(rt; refuses(alloc, &ended, rest, "")?);
+    }
+    Ok(())
+}
+
+// The tadpole's files with one line in place of another, and with words.
+const TADPOLE_FAULTS: [(&str, &str, &str, &str, &str); 9] = [
+    (
+        "jobs",
+        "sectors: [1], r: 2",
+        "sectors: [2], r: 2",
+        "jobs.yaml",
+        "jobs.yaml:4: out of range",
+    ),
+    (
+        "jobs",
+        "  - reduce",
+        "\t - reduce",
+        "jobs.yaml",
+        "jobs.yaml:2: a tab outside comments",
+    ),
+    (
+        "families",
+        "  - name: \"tad\"",
+        "  - &x name: tad",
+        "jobs.yaml",
+        "config/integralfamilies.yaml:2: an anchor, alias, tag or other indicator",
+    ),
+    (
+        "families",
+        "[k1]",
+        "[d]",
+        "jobs.yaml",
+        "config/integralfamilies.yaml:3: reserved name",
+    ),
+    (
+        "kinematics",
+        "[m2, 2]",
+        "[m2, 256]",
+        "jobs.yaml",
+        "config/kinematics.yaml:5: out of range",
+    ),
+    ("", "", "", "jobs.yaml m3=1", "words:2: unknown name"),
+    (
+        "",
+        "",
+        "",
+        "jobs.yaml m2=1 m2=1",
+        "words:3: name used twice",
+    ),
+    (
+        "",
+        "",
+        "",
+        "jobs.yaml prime=2",
+        "words:2: not an odd number from 3 below 2^63",
+    ),
+    ("", "", "", "jobs.yaml d=7/", "words:2: not a number"),
+];
+
+// The text, edited where this is the file that is to be.
+fn tadpole_text(
+    alloc: Global,
+    text: &str,
+    is_edited: bool,
+    old: &str,
+    new: &str,
+) -> Result<String, Fail> {
+    if is_edited {
+        Ok(text.replace(alloc, old, new)?)
+    } else {
+        Ok(String::from_str(alloc, text)?)
+    }
+}
+
+#[test]
+fn faults_of_the_tadpole(rt: HostRuntime) -> Result<(), Fail> {
+    let alloc = rt.alloc();
+    for fault in &TADPOLE_FAULTS {
+        let (file, old, new, words, message) = *fault;
+        let jobs = tadpole_text(alloc, TADPOLE.jobs, file == "jobs", old, new)?;
+        let families = tadpole_text(alloc, TADPOLE.families, file == "families", old, new)?;
+        let kinematics = tadpole_text(alloc, TADPOLE.kinematics, file == "kinematics", old, new)?;
+        let texts = Texts {
+            jobs: jobs.as_str(),
+            families: families.as_str(),
+            kinematics: kinematics.as_str(),
+        };
+        let ended = call(alloc, texts, words)?;
+        assert!(rt; refuses(alloc, &ended, message, "")?, "{message}");
+    }
     Ok(())
 }
