@@ -84,13 +84,18 @@ def edited(text, first, count, with_text):
 
 def ends(program, folder, words):
     """The exit status and what the program writes with these words behind the job file."""
-    run = subprocess.run([program, "jobs.yaml", *words], cwd=folder, capture_output=True)
+    return ends_with(program, folder, ["jobs.yaml", *words])
+
+
+def ends_with(program, folder, words):
+    """The exit status and what the program writes with these words."""
+    run = subprocess.run([program, *words], cwd=folder, capture_output=True)
     return run.returncode, run.stdout, run.stderr
 
 
-def refuses(program, folder, message):
-    """The program ends with status 3, prints nothing, and complains by this line."""
-    return ends(program, folder, []) == (3, b"", f"kira: {message}\n".encode())
+def refuses(program, folder, words, message):
+    """With these words the program ends with status 3, prints nothing, and complains by this line."""
+    return ends_with(program, folder, words) == (3, b"", f"kira: {message}\n".encode())
 
 
 def rows_of(table):
@@ -105,7 +110,7 @@ def refuses_edited(program, name, first, count, with_text, message):
     with tempfile.TemporaryDirectory() as place:
         folder = pathlib.Path(shutil.copytree(source, place, dirs_exist_ok=True))
         (folder / name).write_text(edited((source / name).read_text(), int(first), int(count), with_text))
-        return refuses(program, folder, f"{name}:{message}")
+        return refuses(program, folder, ["jobs.yaml"], f"{name}:{message}")
 
 
 def check_refusals(program):
@@ -127,8 +132,7 @@ def check_words(program):
     source = TOP / "examples" / "refused"
     rows = [["listed:0: no such file", "jobs.yaml s=-1/2 d=4 prime=7"], *rows_of("words.tsv")]
     for message, words in rows:
-        run = subprocess.run([program, *words.split(" ")], cwd=source, capture_output=True)
-        if (run.returncode, run.stdout, run.stderr) != (3, b"", f"kira: {message}\n".encode()):
+        if not refuses(program, source, words.split(" "), message):
             fail(f"examples/refused/words.tsv: {words} isn't refused with {message}")
 
 
