@@ -27,7 +27,8 @@ use Rattle.kira_app.specs.declared.job_files.Trees.{Trees}
 use Rattle.kira_app.specs.declared.status.Status.{Status}
 use Rattle.kira_app.specs.declared.status.Status.TheVariants as status
 use Rattle.kira_app.specs.declared.refusal.Refusal.{Refusal}
-use Rattle.kira_app.specs.Steps.{Answer, Step, Is, After, Then, Each, plain, OfReading, OfPlan}
+use Rattle.job_point.specs.Steps.{Is, After, Then, Each}
+use Rattle.kira_app.specs.Steps.{Answer, Step, plain, OfReading, OfPlan}
 use Rattle.command_line.specs.Request.{Asked}
 use Rattle.command_line.specs.Request as line
 use Rattle.kira_app.specs.Words.{asks, is_served, job_file, overrides_of}

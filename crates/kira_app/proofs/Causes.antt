@@ -18,7 +18,8 @@ use Rattle.kira_app.specs.declared.job_files.Trees.{Trees}
 use Rattle.kira_app.specs.declared.status.Status.{Status}
 use Rattle.kira_app.specs.declared.status.Status.TheVariants as status
 use Rattle.kira_app.specs.declared.refusal.Refusal.{Refusal}
-use Rattle.kira_app.specs.Steps.{Answer, After, Then, plain, OfPlan}
+use Rattle.job_point.specs.Steps.{After, Then}
+use Rattle.kira_app.specs.Steps.{Answer, plain, OfPlan}
 use Rattle.kira_app.specs.Told.{IfTold, ByStatus, Answers, RefusesTold, Tells, SaysMissing, IsMissed}
 use Rattle.command_line.specs.Request.{Asked}
 use Rattle.command_line.specs.Request as line

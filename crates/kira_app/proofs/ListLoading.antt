@@ -10,7 +10,8 @@ use Rattle.kira_outside.specs.Held.{Held}
 use Rattle.job_schema.specs.declared.selections.ListFile.{ListFile}
 use Rattle.kira_app.specs.declared.refusal.Refusal.{Refusal}
 use Rattle.kira_app.specs.Steps as Steps
-use Rattle.kira_app.specs.Steps.{Answer, Is, Each, texts_of}
+use Rattle.job_point.specs.Steps.{Is, Each}
+use Rattle.kira_app.specs.Steps.{Answer, texts_of}
 use Rattle.kira_app.specs.Told.{IfTold, RefusesTold, Tells}
 use Rattle.kira_app.specs.Sources.{list_of, ListsOf}
 use Rattle.kira_app.proofs.Told.{both, by_status, then_is, then_refused}

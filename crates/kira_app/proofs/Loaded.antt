@@ -15,7 +15,8 @@ use Rattle.input_schema.specs.Readings as input
 use Rattle.kira_app.specs.declared.status.Status.{Status}
 use Rattle.kira_app.specs.declared.status.Status.TheVariants as status
 use Rattle.kira_app.specs.declared.refusal.Refusal.{Refusal}
-use Rattle.kira_app.specs.Steps.{Is, OfReading, plainly}
+use Rattle.job_point.specs.Steps.{Is}
+use Rattle.kira_app.specs.Steps.{OfReading, plainly}
 use Rattle.kira_app.specs.Told.{IfTold, ByStatus, Answers, RefusesTold, Tells}
 use Rattle.kira_app.specs.Sources.{tree_from, tree_in, tree_of_entry, TreeOf, no_list, list_of_entry, list_of}
 use Rattle.kira_app.proofs.Told.{weaker, next_answers}

@@ -5,7 +5,8 @@ use Rattle.kira_outside.specs.Held.{Held}
 use Rattle.kira_app.specs.declared.status.Status.{Status}
 use Rattle.kira_app.specs.declared.status.Status.TheVariants as status
 use Rattle.kira_app.specs.declared.refusal.Refusal.{Refusal}
-use Rattle.kira_app.specs.Steps.{Answer, Step, Then, plain, plainly}
+use Rattle.job_point.specs.Steps.{Then}
+use Rattle.kira_app.specs.Steps.{Answer, Step, plain, plainly}
 use Rattle.kira_app.specs.Told.{IfTold, ByStatus, SaysMissing, Refuses, Answers, RefusesTold, Tells}
 
 -- what is told of one step is told of another that follows from it

@@ -14,7 +14,8 @@ use Rattle.kira_outside.specs.Held.{Held}
 use Rattle.kira_app.specs.declared.status.Status.{Status}
 use Rattle.kira_app.specs.declared.status.Status.TheVariants as status
 use Rattle.kira_app.specs.declared.refusal.Refusal.{Refusal}
-use Rattle.kira_app.specs.Steps.{Step, Is, Then, plain, OfPlan}
+use Rattle.job_point.specs.Steps.{Is, Then}
+use Rattle.kira_app.specs.Steps.{Step, plain, OfPlan}
 use Rattle.command_line.specs.Request.{Asked}
 use Rattle.command_line.specs.Request as line
 use Rattle.kira_app.specs.Words.{asks, is_served, job_file, overrides_of}

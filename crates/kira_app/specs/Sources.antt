@@ -22,7 +22,8 @@ use Rattle.kira_app.specs.declared.job_files.Trees.{Trees}
 use Rattle.kira_app.specs.contracts.job_files.Trees as trees_contracts
 use Rattle.kira_app.specs.declared.refusal.Refusal.{Refusal}
 use Rattle.kira_app.specs.declared.status.Status.TheVariants as status
-use Rattle.kira_app.specs.Steps.{Answer, Step, Is, Then, Each, OfReading}
+use Rattle.job_point.specs.Steps.{Is, Then, Each}
+use Rattle.kira_app.specs.Steps.{Answer, Step, OfReading}
 
 -- ---- one file
 

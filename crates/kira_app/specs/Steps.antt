@@ -1,5 +1,5 @@
 -- The steps of a run, of which the first that is refused is the last. The project's own.
-use Rattle.std.specs.Prelude.{◌≡◌, ℕ, List, [], ◌∷◌, ◌++◌, map, Result, Ok, Err}
+use Rattle.std.specs.Prelude.{◌≡◌, ℕ, List, [], map, Result, Ok, Err}
 use Rattle.std.specs.declared.vec.Vec.{Vec}
 use Rattle.input_schema.specs.declared.faults.InputFault.{InputFault}
 use Rattle.input_schema.specs.Readings.{Reading}
@@ -13,29 +13,9 @@ use Rattle.kira_app.specs.declared.refusal.Refusal.{Refusal}
 abbrev pub Answer : Type 0 → Type 0
 Answer A = Result A Refusal
 
--- A step says which answers it may have.
+-- a step says which answers it may have; steps in order are those of a plan
 abbrev pub Step : Type 0 → Type 1
 Step A = Answer A → Type 0
-
--- the answer is this one
-abbrev pub Is : {A : Type 0} → Answer A → Step A
-Is answer r = answer ≡ r
-
--- what follows a value; a refusal stays
-abbrev pub After : {A B : Type 0} → Answer A → (A → Step B) → Step B
-After (Ok a) next r = next a r
-After (Err e) next r = r ≡ Err e
-
--- one step, and then those that follow its value
-pub record Then {A B : Type 0} (first : Step A) (next : A → Step B) (r : Answer B) : Type 0 where
-  pub answer : Answer A
-  pub is : first answer
-  pub after : After answer next r
-
--- The items of a list in order, where the step of each knows what was found before it.
-abbrev pub Each : {N A : Type 0} → (List A → N → Step A) → List A → List N → Step (List A)
-Each step found [] r = r ≡ Ok found
-Each step found (item ∷ items) r = Then (step found item) (λ a. Each step (found ++ a ∷ []) items) r
 
 -- ---- steps of the crates below
 

@@ -3,7 +3,8 @@
 ghost use Rattle.std.specs.Prelude.{◌≡◌, ◌⊎◌, ◌≤◌, ◌<◌, ◌^◌, Ok, [], ◌∷◌, ◌++◌, All, length, map, IfOk, OnOk, IfErr};
 ghost use Rattle.std.specs.Str.{IsAscii};
 ghost use Rattle.input_schema.specs.Readings as input;
-ghost use Rattle.kira_app.specs.Steps.{Is, OfReading, plain, plainly, texts_of, bytes_of};
+ghost use Rattle.job_point.specs.Steps.{Is};
+ghost use Rattle.kira_app.specs.Steps.{OfReading, plain, plainly, texts_of, bytes_of};
 ghost use Rattle.kira_app.specs.Sources.{tree_in, list_of, TreeOf, KinematicsOf, FamiliesOf, TreesOf, ListsOf, OutlineOf, Outlines, SourcesWith, ReadsSources};
 ghost use Rattle.kira_app.specs.Told.{Tells, Answers, IsMissed, IsPresent};
 

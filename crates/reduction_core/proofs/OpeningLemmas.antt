@@ -8,7 +8,6 @@ use Rattle.std.specs.declared.cmp.Ordering.TheVariants.{Less, Equal, Greater}
 use Rattle.std.proofs.lemmas.Bool.{cases_lt, cases_order}
 use Rattle.std.proofs.lemmas.Cmp.{tied_itself}
 use Rattle.std.proofs.lemmas.List.{take_more}
-use Rattle.std.proofs.lemmas.List.Edits.{length-insert, get_or-insert_below, get_or-insert_at, get_or-insert_above}
 use Rattle.std.proofs.lemmas.List.Elements.{All-contains, Contains-append_left, Contains-append_cases, Contains-push}
 use Rattle.std.proofs.lemmas.List.Sorted.{IsPermutation-insert, IsPermutation-sym, Contains-permutation, searchable_from_sorted}
 use Rattle.integral_index.specs.declared.Order.{Order}
@@ -24,6 +23,7 @@ use Rattle.sparse_row.proofs.TermLists.{Descends-from_pairs}
 use Rattle.sector_forward.proofs.Shown.{term_of_shown}
 use Rattle.sector_forward.proofs.Members.{Contains-cons_cases, Contains-here, Contains-there}
 use Rattle.sector_forward.proofs.StepLemmas.{same_at}
+use Rattle.sector_forward.proofs.Taking.{AllPairs-insert}
 use Rattle.sector_machine.specs.State.{rows_at, unless_empty, has_greatest_in}
 use Rattle.std.specs.Option.{option_map}
 use Rattle.sector_machine.specs.Machine.{Ascends, AreUnitsOf, Opens}
@@ -36,27 +36,6 @@ use Rattle.reduction_core.specs.Opening.{ShowsUnit, AreListed, IsEmptySlot}
 use Rattle.reduction_core.proofs.SlotLemmas.{joined_units, joined_waiting}
 
 -- ---- one unit more
-
-AllPairs-insert : {X : Type 0} (R : X → X → Type 0) (xs : List X) (place : ℕ) (y : X) → place ≤ length xs → AllPairs R xs → ((k : ℕ) (d : X) → k < place → R (get_or xs k d) y) → ((k : ℕ) (d : X) → place ≤ k → k < length xs → R y (get_or xs k d)) → AllPairs R (insert xs place y)
-AllPairs-insert {X} R xs place y within pairs before after i j d l in_j =
-    let len = length-insert xs place y within in
-    let below : (k : ℕ) → k < place → get_or (insert xs place y) k d ≡ get_or xs k d = λ k h. get_or-insert_below xs place y d k h within in
-    let here : get_or (insert xs place y) place d ≡ y = get_or-insert_at xs place y d within in
-    let above : (k : ℕ) → place < k → get_or (insert xs place y) k d ≡ get_or xs (k - 1) d =
-    λ k h. let e : k ≡ (k - 1) + 1 = omega arith in ap (λ n. get_or (insert xs place y) n d) e ∙ get_or-insert_above xs place y d (k - 1) (omega arith) within in
-    let both : (a b : X) → get_or (insert xs place y) i d ≡ a → get_or (insert xs place y) j d ≡ b → R a b → R (get_or (insert xs place y) i d) (get_or (insert xs place y) j d) =
-    λ a b e f r. subst (λ u. R u (get_or (insert xs place y) j d)) (sym e) (subst (λ u. R a u) (sym f) r) in
-    elim (cases_order j place) [
-      | inl same ↦
-          both (get_or xs i d) y (below i (omega arith)) (ap (λ n. get_or (insert xs place y) n d) same ∙ here) (before i d (omega arith))
-      | inr (inl low) ↦ both (get_or xs i d) (get_or xs j d) (below i (omega arith)) (below j low) (pairs i j d l (omega arith))
-      | inr (inr high) ↦
-          elim (cases_order i place) [
-            | inl same ↦ both y (get_or xs (j - 1) d) (ap (λ n. get_or (insert xs place y) n d) same ∙ here) (above j high) (after (j - 1) d (omega arith) (omega arith))
-            | inr (inl low) ↦ both (get_or xs i d) (get_or xs (j - 1) d) (below i low) (above j high) (pairs i (j - 1) d (omega arith) (omega arith))
-            | inr (inr up) ↦ both (get_or xs (i - 1) d) (get_or xs (j - 1) d) (above i up) (above j high) (pairs (i - 1) (j - 1) d (omega arith) (omega arith))
-          ]
-    ]
 
 units_sorted : (units : List Unit) → Ascends units → IsSorted unit_compare units
 units_sorted units ascend k d low within =

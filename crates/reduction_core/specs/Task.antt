@@ -1,10 +1,12 @@
 -- A task: rows of a unit with the computation that they are for, and what a record has to meet for it.
 -- Source: Laporta, hep-ph/0102033, and Kira, arXiv:1705.05610, for the two computations; the task is the project's own.
-use Rattle.std.specs.Prelude.{◌≡◌, ℕ, All, refl}
+use Rattle.std.specs.Prelude.{◌≡◌, ⊤, ℕ, All, refl}
 use Rattle.std.specs.Coded.{Coded, code_by, coded×, coded_ℕ}
 use Rattle.integral_index.specs.declared.Order.{Order}
 use Rattle.integral_index.specs.declared.Unit.{Unit}
 use Rattle.sector_forward.specs.Elimination.{IsTaken, IsElimination}
+use Rattle.sector_forward.specs.declared.fault.ForwardFault.{ForwardFault}
+use Rattle.sector_forward.specs.declared.fault.ForwardFault.TheVariants as fault
 use Rattle.back_substitute.specs.Substitution.{AreRules, AreBelow, IsSubstitution}
 use Rattle.reduction_core.specs.declared.task.Work.{Work}
 use Rattle.reduction_core.specs.declared.task.Work.TheVariants as work
@@ -29,6 +31,11 @@ unit_of_work (work.Back unit rows below) = unit
 abbrev pub step_count : Work → ℕ
 step_count (work.Forward unit rows) = 1
 step_count (work.Back unit rows below) = 0
+
+-- a back substitution divides by nothing, so that want of memory alone breaks it off. Of a forward elimination nothing is said here
+abbrev pub MayBreakOff : Work → ForwardFault → Type 0
+MayBreakOff (work.Forward unit rows) why = ⊤
+MayBreakOff (work.Back unit rows below) why = why ≡ fault.OutOfMemory
 
 -- the rows meet the conditions of the elimination, or of the back substitution, in this order
 abbrev pub MeetsConditions : ℕ → Order → Work → Type 0

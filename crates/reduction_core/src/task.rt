@@ -71,7 +71,7 @@ impl Task {
     ghost use Rattle.sector_forward.specs.Elimination.{IsTaken};
     ghost use Rattle.sector_forward.specs.Fault.{HasCause};
     ghost use Rattle.back_substitute.specs.Substitution.{AreRules, AreBelow};
-    ghost use Rattle.reduction_core.specs.Task.{Task as TaskValue, unit_of_work, step_count, MeetsTask};
+    ghost use Rattle.reduction_core.specs.Task.{Task as TaskValue, unit_of_work, step_count, MeetsTask, MayBreakOff};
 
     // The task of the forward elimination of a unit from these rows.
     pub(crate) fn forward(unit: Unit, rows: Vec<Row>, modulus: Modulus) -> Task
@@ -137,11 +137,12 @@ impl Task {
     /// `sector_machine::laws::computed_rows_serve` says. A forward elimination is one step, and a back
     /// substitution none.
     ///
-    /// `Composite` only with a divisor of the modulus that lies between 1 and it.
+    /// `Composite` only in a forward elimination, with a divisor of the modulus that lies between 1 and it.
     pub fn compute<L: Ledger>(self, steps: &mut Steps<L>) -> Result<(Task, Record), ForwardFault>
         ensures task { IfOk result (λ done. done.0 ≡ self) }
         ensures event { IfOk result (λ done. MeetsTask done.0 done.1) }
         ensures cause { IfErr result (λ fault. HasCause self.modulus fault) }
+        ensures no_inverse { IfErr result (λ fault. MayBreakOff self.work fault) }
         ensures steps { steps.new ≡ steps.old + step_count self.work }
     {
         let modulus = self.modulus;
@@ -226,7 +227,7 @@ fn substituted(
     requires { (order : OrderValue) × AreRules modulus order unit rows.items × AreBelow modulus order unit below.items }
     ensures task { IfOk result (λ done. done.0 ≡ record { modulus = modulus; work = Work.Back unit rows.items below.items }) }
     ensures event { IfOk result (λ done. MeetsTask done.0 done.1) }
-    ensures cause { IfErr result (λ fault. HasCause modulus fault) }
+    ensures cause { IfErr result (λ fault. fault ≡ ForwardFault.OutOfMemory) }
 {
     let alloc = *rows.allocator();
     let outcome = substitute(alloc, unit, rows, below, modulus)?;

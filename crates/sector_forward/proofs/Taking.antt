@@ -102,7 +102,7 @@ module _ (p : ℕ) (order : Order) (table : List Row) (equation row rule : Row) 
 
 -- ---- the stairs with one rule more
 
-AllPairs-insert : {X : Type 0} (R : X → X → Type 0) (xs : List X) (place : ℕ) (y : X) → place ≤ length xs → AllPairs R xs → ((k : ℕ) (d : X) → k < place → R (get_or xs k d) y) → ((k : ℕ) (d : X) → place ≤ k → k < length xs → R y (get_or xs k d)) → AllPairs R (insert xs place y)
+pub AllPairs-insert : {X : Type 0} (R : X → X → Type 0) (xs : List X) (place : ℕ) (y : X) → place ≤ length xs → AllPairs R xs → ((k : ℕ) (d : X) → k < place → R (get_or xs k d) y) → ((k : ℕ) (d : X) → place ≤ k → k < length xs → R y (get_or xs k d)) → AllPairs R (insert xs place y)
 AllPairs-insert {X} R xs place y within pairs before after i j d l in_j =
     let len = length-insert xs place y within in
     let below : (k : ℕ) → k < place → get_or (insert xs place y) k d ≡ get_or xs k d = λ k h. get_or-insert_below xs place y d k h within in

@@ -1,6 +1,7 @@
 use Rattle.std.proofs.Common.{codes, Ok, refl}
 use Rattle.input_schema.specs.declared.faults.File.TheVariants.{Kinematics}
-use Rattle.kira_app.specs.Steps.{Is, plain}
+use Rattle.job_point.specs.Steps.{Is}
+use Rattle.kira_app.specs.Steps.{plain}
 use Rattle.kira_app.specs.Sources.{TreeOf, KinematicsOf}
 use Rattle.kira_app.proofs.Told.{weaker, then_is, stops, err_plain}
 use Rattle.kira_app.proofs.loading.load_kinematics.Goals as goal

@@ -2,7 +2,8 @@ use Rattle.std.proofs.Common.{Ok, List, refl}
 use Rattle.job_schema.specs.Overridden.{Override}
 use Rattle.job_plan.specs.Outlines.{Outline}
 use Rattle.kira_app.specs.declared.job_files.Trees.{Trees}
-use Rattle.kira_app.specs.Steps.{Step, Is, Then, plain}
+use Rattle.job_point.specs.Steps.{Is, Then}
+use Rattle.kira_app.specs.Steps.{Step, plain}
 use Rattle.kira_app.specs.Told.{IsMissed}
 use Rattle.kira_app.specs.Sources.{TreesOf, OutlineOf, Outlines}
 use Rattle.kira_app.proofs.Told.{weaker, then_is, err_plain, of_error, refused_then, told_later, missing_said}

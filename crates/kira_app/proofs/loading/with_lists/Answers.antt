@@ -3,7 +3,7 @@ use Rattle.std.proofs.lemmas.List.{length-map}
 use Rattle.std.proofs.lemmas.List.Elements.{All-map}
 use Rattle.yaml_text.specs.Lines.{Bytes}
 use Rattle.job_schema.specs.declared.selections.Selection.{Selection}
-use Rattle.kira_app.specs.Steps.{Is}
+use Rattle.job_point.specs.Steps.{Is}
 use Rattle.kira_app.specs.Sources.{ListsOf, SourcesWith}
 use Rattle.kira_app.proofs.Told.{stops, err_told}
 use Rattle.kira_app.proofs.loading.with_lists.Goals as goal
