@@ -14,7 +14,7 @@ use integral_index::{Integral, Order, ZeroSectors, is_index_list};
 use kinematics::{Momentum, Point, Rule, are_coefficients, are_wide, point, rules_fit};
 use out_of_memory::OutOfMemory;
 use propagators::{Basis, Denominator, denominators_fit, family};
-use sparse_row::Row;
+use sparse_row::{Row, Term};
 use sqlite_items::Items;
 use std::alloc::{AllocError, AllocFailed, Global};
 use std::test::Fail;
@@ -293,53 +293,154 @@ fn rows_of(
     )?)
 }
 
-// Whether the row has just these terms of a family, from the greatest integral to the least.
-fn has_terms(alloc: Global, row: &Row, family: u32, terms: &[(&[i8], u64)]) -> Result<bool, Wrong> {
-    let found = row.terms();
-    if found.len() != terms.len() {
-        return Ok(false);
+// The terms of a row, each with the indices of its integral and the coefficient.
+type Terms = &'static [(&'static [i8], u64)];
+
+// A family of the jobs below, and which symmetries it has.
+enum Known {
+    // With this squared mass.
+    Tadpole(u64),
+    Bubble,
+    // With the map that leaves k1, and with the one that exchanges the lines.
+    SymmetricBubble,
+    Vacuum,
+}
+
+struct Job {
+    first: Known,
+    second: Option<Known>,
+    zero_sectors: &'static [&'static [u32]],
+    dimension: u128,
+    // Each with the number of its family.
+    seeds: &'static [(u32, &'static [i8])],
+    // The equations, each of a family.
+    rows: &'static [(u32, Terms)],
+}
+
+fn symmetric_bubble(alloc: Global, modulus: &Modulus) -> Result<(Basis, Items<Symmetry>), Wrong>
+    ensures { IfOk result (λ both. both.0.point.modulus ≡ modulus.now) }
+{
+    let (_other, stay) = bubble_with(alloc, &[1, 0], modulus)?;
+    let (basis, exchange) = bubble_with(alloc, &[-1, -1], modulus)?;
+    let mut found = Items::new(alloc);
+    found.push(stay)?;
+    found.push(exchange)?;
+    Ok((basis, found))
+}
+
+fn basis_and_symmetries(
+    alloc: Global,
+    family: &Known,
+    modulus: &Modulus,
+) -> Result<(Basis, Items<Symmetry>), Wrong>
+    ensures { IfOk result (λ both. both.0.point.modulus ≡ modulus.now) }
+{
+    match family {
+        Known::Tadpole(mass) => Ok((tadpole(alloc, *mass, modulus)?, Items::new(alloc))),
+        Known::Bubble => Ok((bubble(alloc, modulus)?, Items::new(alloc))),
+        Known::SymmetricBubble => symmetric_bubble(alloc, modulus),
+        Known::Vacuum => Ok((vacuum(alloc, modulus)?, Items::new(alloc))),
     }
-    for k in 0..found.len() {
-        if found[k].integral != integral(alloc, family, terms[k].0)?
-            || found[k].coefficient != terms[k].1
-        {
-            return Ok(false);
+}
+
+fn push_known(
+    alloc: Global,
+    bases: &mut Vec<Basis>,
+    symmetries: &mut Vec<Items<Symmetry>>,
+    family: &Known,
+    modulus: &Modulus,
+) -> Result<(), Wrong>
+    requires all { All (λ basis. basis.point.modulus ≡ modulus.now) bases.old.items }
+    requires pairs { AllZip AreSymmetriesOf bases.old.items symmetries.old.items }
+    ensures all { OnOk result (All (λ basis. basis.point.modulus ≡ modulus.now) bases.new.items) }
+    ensures pairs { OnOk result (AllZip AreSymmetriesOf bases.new.items symmetries.new.items) }
+{
+    let (basis, found) = basis_and_symmetries(alloc, family, modulus)?;
+    push_family(bases, symmetries, basis, found, modulus)
+}
+
+fn rows_of_families(
+    alloc: Global,
+    job: &Job,
+    bases: &[Basis],
+    symmetries: &[Items<Symmetry>],
+    modulus: &Modulus,
+) -> Result<Vec<Row>, Wrong>
+    requires all { All (λ basis. basis.point.modulus ≡ modulus.now) bases.now }
+    requires pairs { AllZip AreSymmetriesOf bases.now symmetries.now }
+{
+    rows_of(
+        alloc,
+        bases,
+        symmetries,
+        job.zero_sectors,
+        job.dimension,
+        job.seeds,
+        modulus,
+    )
+}
+
+fn rows_of_job(alloc: Global, job: &Job, modulus: &Modulus) -> Result<Vec<Row>, Wrong> {
+    let mut bases = Vec::new(alloc);
+    let mut symmetries = Vec::new(alloc);
+    push_known(alloc, &mut bases, &mut symmetries, &job.first, modulus)?;
+    match &job.second {
+        None => rows_of_families(alloc, job, &bases, &symmetries, modulus),
+        Some(second) => {
+            push_known(alloc, &mut bases, &mut symmetries, second, modulus)?;
+            rows_of_families(alloc, job, &bases, &symmetries, modulus)
         }
     }
-    Ok(true)
+}
+
+fn is_term(term: &Term, family: u32, indices: &[i8], coefficient: u64) -> bool {
+    term.integral.family() == family
+        && term.integral.indices() == indices
+        && term.coefficient == coefficient
+}
+
+// Whether the row has just these terms of a family, from the greatest integral to the least.
+fn has_terms(row: &Row, family: u32, terms: &[(&[i8], u64)]) -> bool {
+    let found = row.terms();
+    if found.len() != terms.len() {
+        return false;
+    }
+    for k in 0..found.len() {
+        if !is_term(&found[k], family, terms[k].0, terms[k].1) {
+            return false;
+        }
+    }
+    true
 }
 
 // Whether these are the rows, each of a family and with these terms.
-fn are_rows(alloc: Global, rows: &[Row], wanted: &[(u32, &[(&[i8], u64)])]) -> Result<bool, Wrong> {
+fn are_rows(rows: &[Row], wanted: &[(u32, Terms)]) -> bool {
     if rows.len() != wanted.len() {
-        return Ok(false);
+        return false;
     }
     for k in 0..rows.len() {
-        if !has_terms(alloc, &rows[k], wanted[k].0, wanted[k].1)? {
-            return Ok(false);
+        if !has_terms(&rows[k], wanted[k].0, wanted[k].1) {
+            return false;
         }
     }
-    Ok(true)
+    true
+}
+
+// Whether the job has just its equations, modulo 101.
+fn has_its_equations(alloc: Global, job: &Job) -> Result<bool, Fail> {
+    let modulus = Modulus::new(101)?;
+    let rows = rows_of_job(alloc, job, &modulus)?;
+    Ok(are_rows(&rows, job.rows))
 }
 
 // The derivative times k1 is 2 D1 and D1 + D2 - 5, that times p1 is D2 - D1 - 5 and D2 - D1 + 5.
-#[test]
-fn equations_of_the_bubble(rt: HostRuntime) -> Result<(), Fail> {
-    let alloc = rt.alloc();
-    let modulus = Modulus::new(101)?;
-    let mut bases = Vec::new(alloc);
-    let mut symmetries = Vec::new(alloc);
-    let basis = bubble(alloc, &modulus)?;
-    push_family(
-        &mut bases,
-        &mut symmetries,
-        basis,
-        Items::new(alloc),
-        &modulus,
-    )?;
-    let seeds: [(u32, &[i8]); 2] = [(0, &[2, -1]), (0, &[1, 1])];
-    let rows = rows_of(alloc, &bases, &symmetries, &[&[]], 7, &seeds, &modulus)?;
-    let wanted: [(u32, &[(&[i8], u64)]); 4] = [
+const OF_THE_BUBBLE: Job = Job {
+    first: Known::Bubble,
+    second: None,
+    zero_sectors: &[&[]],
+    dimension: 7,
+    seeds: &[(0, &[2, -1]), (0, &[1, 1])],
+    rows: &[
         (0, &[(&[2, -1], 4), (&[2, 0], 96), (&[1, 0], 1)]),
         (
             0,
@@ -356,80 +457,46 @@ fn equations_of_the_bubble(rt: HostRuntime) -> Result<(), Fail> {
             0,
             &[(&[2, 1], 5), (&[1, 2], 96), (&[0, 2], 1), (&[2, 0], 100)],
         ),
-    ];
-    assert!(rt; are_rows(alloc, &rows, &wanted)?);
+    ],
+};
+
+#[test]
+fn equations_of_the_bubble(rt: HostRuntime) -> Result<(), Fail> {
+    assert!(rt; has_its_equations(rt.alloc(), &OF_THE_BUBBLE)?);
     Ok(())
 }
 
 // The tadpole with the squared mass 3 has (d - 2a) I(a) - 6a I(a + 1). The bubble's sectors 1 and 2 are zero,
 // and the tadpole's sector 1 isn't.
-#[test]
-fn the_family_of_a_seed_decides(rt: HostRuntime) -> Result<(), Fail> {
-    let alloc = rt.alloc();
-    let modulus = Modulus::new(101)?;
-    let mut bases = Vec::new(alloc);
-    let mut symmetries = Vec::new(alloc);
-    let basis = tadpole(alloc, 3, &modulus)?;
-    push_family(
-        &mut bases,
-        &mut symmetries,
-        basis,
-        Items::new(alloc),
-        &modulus,
-    )?;
-    let basis = bubble(alloc, &modulus)?;
-    push_family(
-        &mut bases,
-        &mut symmetries,
-        basis,
-        Items::new(alloc),
-        &modulus,
-    )?;
-    let seeds: [(u32, &[i8]); 3] = [(0, &[1]), (1, &[1, 1]), (0, &[2])];
-    let rows = rows_of(
-        alloc,
-        &bases,
-        &symmetries,
-        &[&[], &[1, 2]],
-        7,
-        &seeds,
-        &modulus,
-    )?;
-    let wanted: [(u32, &[(&[i8], u64)]); 4] = [
+const OF_TWO_FAMILIES: Job = Job {
+    first: Known::Tadpole(3),
+    second: Some(Known::Bubble),
+    zero_sectors: &[&[], &[1, 2]],
+    dimension: 7,
+    seeds: &[(0, &[1]), (1, &[1, 1]), (0, &[2])],
+    rows: &[
         (0, &[(&[2], 95), (&[1], 5)]),
         (1, &[(&[1, 2], 5), (&[1, 1], 4)]),
         (1, &[(&[2, 1], 5), (&[1, 2], 96)]),
         (0, &[(&[3], 89), (&[2], 3)]),
-    ];
-    assert!(rt; are_rows(alloc, &rows, &wanted)?);
+    ],
+};
+
+#[test]
+fn the_family_of_a_seed_decides(rt: HostRuntime) -> Result<(), Fail> {
+    assert!(rt; has_its_equations(rt.alloc(), &OF_TWO_FAMILIES)?);
     Ok(())
 }
 
 // The two maps of the bubble are the one that leaves k1, by which all cancels, and k1 -> -k1 - p1, which
 // exchanges the lines. The tadpole has no symmetry.
-#[test]
-fn symmetries_come_behind_the_derivatives(rt: HostRuntime) -> Result<(), Fail> {
-    let alloc = rt.alloc();
-    let modulus = Modulus::new(101)?;
-    let mut bases = Vec::new(alloc);
-    let mut symmetries = Vec::new(alloc);
-    let basis = tadpole(alloc, 3, &modulus)?;
-    push_family(
-        &mut bases,
-        &mut symmetries,
-        basis,
-        Items::new(alloc),
-        &modulus,
-    )?;
-    let (_other, stay) = bubble_with(alloc, &[1, 0], &modulus)?;
-    let (basis, exchange) = bubble_with(alloc, &[-1, -1], &modulus)?;
-    let mut found = Items::new(alloc);
-    found.push(stay)?;
-    found.push(exchange)?;
-    push_family(&mut bases, &mut symmetries, basis, found, &modulus)?;
-    let seeds: [(u32, &[i8]); 2] = [(0, &[1]), (1, &[2, -1])];
-    let rows = rows_of(alloc, &bases, &symmetries, &[&[], &[]], 7, &seeds, &modulus)?;
-    let wanted: [(u32, &[(&[i8], u64)]); 5] = [
+const WITH_SYMMETRIES: Job = Job {
+    first: Known::Tadpole(3),
+    second: Some(Known::SymmetricBubble),
+    zero_sectors: &[&[], &[]],
+    dimension: 7,
+    seeds: &[(0, &[1]), (1, &[2, -1])],
+    rows: &[
         (0, &[(&[2], 95), (&[1], 5)]),
         (1, &[(&[2, -1], 4), (&[2, 0], 96), (&[1, 0], 1)]),
         (
@@ -444,62 +511,51 @@ fn symmetries_come_behind_the_derivatives(rt: HostRuntime) -> Result<(), Fail> {
         ),
         (1, &[]),
         (1, &[(&[-1, 2], 100), (&[2, -1], 1)]),
-    ];
-    assert!(rt; are_rows(alloc, &rows, &wanted)?);
+    ],
+};
+
+#[test]
+fn symmetries_come_behind_the_derivatives(rt: HostRuntime) -> Result<(), Fail> {
+    assert!(rt; has_its_equations(rt.alloc(), &WITH_SYMMETRIES)?);
     Ok(())
 }
 
 // The massless tadpole has (d - 2a) I(a): nothing for d = 2 and a = 1.
+const WITH_AN_EMPTY_ROW: Job = Job {
+    first: Known::Tadpole(0),
+    second: None,
+    zero_sectors: &[&[]],
+    dimension: 2,
+    seeds: &[(0, &[1]), (0, &[2])],
+    rows: &[(0, &[]), (0, &[(&[2], 99)])],
+};
+
+const WITHOUT_SEEDS: Job = Job {
+    first: Known::Tadpole(0),
+    second: None,
+    zero_sectors: &[&[]],
+    dimension: 2,
+    seeds: &[],
+    rows: &[],
+};
+
 #[test]
 fn an_empty_row_stays(rt: HostRuntime) -> Result<(), Fail> {
-    let alloc = rt.alloc();
-    let modulus = Modulus::new(101)?;
-    let mut bases = Vec::new(alloc);
-    let mut symmetries = Vec::new(alloc);
-    let basis = tadpole(alloc, 0, &modulus)?;
-    push_family(
-        &mut bases,
-        &mut symmetries,
-        basis,
-        Items::new(alloc),
-        &modulus,
-    )?;
-    let seeds: [(u32, &[i8]); 2] = [(0, &[1]), (0, &[2])];
-    let rows = rows_of(alloc, &bases, &symmetries, &[&[]], 2, &seeds, &modulus)?;
-    let wanted: [(u32, &[(&[i8], u64)]); 2] = [(0, &[]), (0, &[(&[2], 99)])];
-    assert!(rt; are_rows(alloc, &rows, &wanted)?);
-    let none = rows_of(alloc, &bases, &symmetries, &[&[]], 2, &[], &modulus)?;
-    assert!(rt; none.is_empty());
+    assert!(rt; has_its_equations(rt.alloc(), &WITH_AN_EMPTY_ROW)?);
+    assert!(rt; has_its_equations(rt.alloc(), &WITHOUT_SEEDS)?);
     Ok(())
 }
 
 // With k1 k2 = D3 - D1 - 3, the derivatives by k1 are 2 D1 + 6, 0, D3 + D1 + 3 times k1, and
 // 2 D3 - 2 D1 - 6, 0, 2 D3 - 2 D1 - 6 + D2 times k2; those by k2 are 0, 2 D3 - 2 D1 - 6, D1 + 3 times k1, and
 // 0, 2 D2, D3 - D1 - 3 times k2.
-#[test]
-fn the_loop_momentum_is_the_outer_one(rt: HostRuntime) -> Result<(), Fail> {
-    let alloc = rt.alloc();
-    let modulus = Modulus::new(101)?;
-    let mut bases = Vec::new(alloc);
-    let mut symmetries = Vec::new(alloc);
-    let basis = vacuum(alloc, &modulus)?;
-    push_family(
-        &mut bases,
-        &mut symmetries,
-        basis,
-        Items::new(alloc),
-        &modulus,
-    )?;
-    let rows = rows_of(
-        alloc,
-        &bases,
-        &symmetries,
-        &[&[]],
-        7,
-        &[(0, &[1, 1, 1])],
-        &modulus,
-    )?;
-    let wanted: [(u32, &[(&[i8], u64)]); 4] = [
+const OF_THE_VACUUM: Job = Job {
+    first: Known::Vacuum,
+    second: None,
+    zero_sectors: &[&[]],
+    dimension: 7,
+    seeds: &[(0, &[1, 1, 1])],
+    rows: &[
         (
             0,
             &[
@@ -530,8 +586,12 @@ fn the_loop_momentum_is_the_outer_one(rt: HostRuntime) -> Result<(), Fail> {
             ],
         ),
         (0, &[(&[1, 1, 2], 3), (&[1, 1, 1], 4), (&[0, 1, 2], 1)]),
-    ];
-    assert!(rt; are_rows(alloc, &rows, &wanted)?);
+    ],
+};
+
+#[test]
+fn the_loop_momentum_is_the_outer_one(rt: HostRuntime) -> Result<(), Fail> {
+    assert!(rt; has_its_equations(rt.alloc(), &OF_THE_VACUUM)?);
     Ok(())
 }
 
@@ -569,35 +629,65 @@ fn bound_of(alloc: Global, shapes: &[EquationShape], families: &[u32]) -> Result
     Ok(term_bound(shapes, &seeds))
 }
 
-fn shape(loops: u32, externals: u32, width: u32, symmetries: u32) -> EquationShape {
+const TADPOLE_BOX_AND_DOUBLE_BOX: &[EquationShape] = &[
     EquationShape {
-        loops,
-        externals,
-        width,
-        symmetries,
+        loops: 1,
+        externals: 0,
+        width: 1,
+        symmetries: 0,
+    },
+    EquationShape {
+        loops: 1,
+        externals: 3,
+        width: 4,
+        symmetries: 0,
+    },
+    EquationShape {
+        loops: 2,
+        externals: 3,
+        width: 9,
+        symmetries: 0,
+    },
+];
+
+const SYMMETRIC_BOX: &[EquationShape] = &[EquationShape {
+    loops: 1,
+    externals: 3,
+    width: 4,
+    symmetries: 2,
+}];
+
+const GREATEST: &[EquationShape] = &[EquationShape {
+    loops: 6,
+    externals: 6,
+    width: 20,
+    symmetries: 64,
+}];
+
+// Shapes, the families of the seeds, and the bound. The tadpole, the box and the double box have 1 · 3, 4 · 21 and
+// 10 · 91 terms a seed; with two symmetries the box has 6 · 21.
+const BOUNDS: &[(&[EquationShape], &[u32], u64)] = &[
+    (TADPOLE_BOX_AND_DOUBLE_BOX, &[], 0),
+    (TADPOLE_BOX_AND_DOUBLE_BOX, &[0], 3),
+    (TADPOLE_BOX_AND_DOUBLE_BOX, &[1], 84),
+    (TADPOLE_BOX_AND_DOUBLE_BOX, &[2], 910),
+    (TADPOLE_BOX_AND_DOUBLE_BOX, &[0, 0, 1, 2, 2, 2], 2820),
+    (TADPOLE_BOX_AND_DOUBLE_BOX, &[2, 1, 2, 0, 2, 0], 2820),
+    (SYMMETRIC_BOX, &[0, 0], 252),
+    (GREATEST, &[0], 57256),
+];
+
+fn all_are_bounded(alloc: Global) -> Result<bool, Wrong> {
+    for (shapes, families, bound) in BOUNDS {
+        if bound_of(alloc, shapes, families)? != *bound {
+            return Ok(false);
+        }
     }
+    Ok(true)
 }
 
-// The tadpole, the box and the double box have 1 · 3, 4 · 21 and 10 · 91 terms a seed; with two symmetries the
-// box has 6 · 21.
 #[test]
 fn bounds_on_terms(rt: HostRuntime) -> Result<(), Fail> {
-    let alloc = rt.alloc();
-    let shapes = [shape(1, 0, 1, 0), shape(1, 3, 4, 0), shape(2, 3, 9, 0)];
-    let bounds: [(&[u32], u64); 6] = [
-        (&[], 0),
-        (&[0], 3),
-        (&[1], 84),
-        (&[2], 910),
-        (&[0, 0, 1, 2, 2, 2], 2820),
-        (&[2, 1, 2, 0, 2, 0], 2820),
-    ];
-    for (families, bound) in bounds {
-        assert!(rt; bound_of(alloc, &shapes, families)? == bound);
-    }
-    let symmetric = [shape(1, 3, 4, 2)];
-    assert!(rt; bound_of(alloc, &symmetric, &[0, 0])? == 252);
-    let most = [shape(6, 6, 20, 64)];
-    assert!(rt; bound_of(alloc, &most, &[0])? == 57256);
+    assert!(rt; all_are_bounded(rt.alloc())?);
     Ok(())
 }
