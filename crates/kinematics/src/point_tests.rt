@@ -26,232 +26,269 @@ fn add(
     Ok(())
 }
 
-// The products of the point in the order of the tables, or the fault.
+// The rules that products of two sums of momenta have these values.
+type Given = (&'static [i16], &'static [i16], u64);
+
+fn rules_of(alloc: Global, given: &[Given]) -> Result<Vec<Rule>, Fail> {
+    let mut rules = Vec::new(alloc);
+    for (left, right, value) in given {
+        add(alloc, &mut rules, left, right, *value)?;
+    }
+    Ok(rules)
+}
+
 fn point_of(
     alloc: Global,
-    rules: &[Rule],
+    given: &[Given],
     externals: u32,
     p: u64,
-) -> Result<Result<Vec<u64>, PointFault>, Fail> {
+) -> Result<Result<Point, PointFault>, Fail> {
     let modulus = Modulus::new(p)?;
-    if externals > 6 || !rules_fit(rules, externals, &modulus) {
+    let rules = rules_of(alloc, given)?;
+    if externals > 6 || !rules_fit(&rules, externals, &modulus) {
         return Err("not such rules")?;
     }
-    match point(alloc, rules, externals, &modulus) {
-        Ok(point) => Ok(Ok(products(alloc, &point)?)),
-        Err(fault) => Ok(Err(fault)),
-    }
+    Ok(point(alloc, &rules, externals, &modulus))
 }
 
-fn products(alloc: Global, point: &Point) -> Result<Vec<u64>, Fail> {
+// Whether the point has just these products, in the order of the tables.
+fn has_products(point: &Point, wanted: &[u64]) -> bool {
     let externals = point.externals();
-    let mut products = Vec::new(alloc);
+    let mut place = 0;
     for x in 0..externals {
         for y in x..externals {
-            products.push(point.product(x + 1, y + 1))?;
+            if place >= wanted.len() || point.product(x + 1, y + 1) != wanted[place] {
+                return false;
+            }
+            place += 1;
         }
     }
-    Ok(products)
+    place == wanted.len()
 }
 
-// p1 and p2 are massless, and the square of their sum is s.
-fn triangle(alloc: Global, s: u64) -> Result<Vec<Rule>, Fail> {
-    let mut rules = Vec::new(alloc);
-    add(alloc, &mut rules, &[1, 0], &[1, 0], 0)?;
-    add(alloc, &mut rules, &[0, 1], &[0, 1], 0)?;
-    add(alloc, &mut rules, &[1, 1], &[1, 1], s)?;
-    Ok(rules)
+fn gives(
+    alloc: Global,
+    given: &[Given],
+    externals: u32,
+    p: u64,
+    wanted: &[u64],
+) -> Result<bool, Fail> {
+    match point_of(alloc, given, externals, p)? {
+        Ok(point) => Ok(has_products(&point, wanted)),
+        Err(_) => Ok(false),
+    }
 }
 
-// p1, p2, p3 and -p1-p2-p3 are massless; the squares of p1 + p2 and p2 + p3 are s and t.
-fn square(alloc: Global, s: u64, t: u64) -> Result<Vec<Rule>, Fail> {
-    let mut rules = Vec::new(alloc);
-    add(alloc, &mut rules, &[1, 0, 0], &[1, 0, 0], 0)?;
-    add(alloc, &mut rules, &[0, 1, 0], &[0, 1, 0], 0)?;
-    add(alloc, &mut rules, &[0, 0, 1], &[0, 0, 1], 0)?;
-    add(alloc, &mut rules, &[-1, -1, -1], &[-1, -1, -1], 0)?;
-    add(alloc, &mut rules, &[1, 1, 0], &[1, 1, 0], s)?;
-    add(alloc, &mut rules, &[0, 1, 1], &[0, 1, 1], t)?;
-    Ok(rules)
+// Whether the rules clash, shown by these multipliers, whose combination says that 0 is the residue.
+fn clash(
+    alloc: Global,
+    given: &[Given],
+    externals: u32,
+    p: u64,
+    wanted: &[u64],
+    left: u64,
+) -> Result<bool, Fail> {
+    match point_of(alloc, given, externals, p)? {
+        Err(
+            PointFault::RulesClash {
+                multipliers,
+                residue,
+            },
+        ) => Ok(multipliers.entries() == wanted && residue == left),
+        _ => Ok(false),
+    }
 }
 
+fn is_open(
+    alloc: Global,
+    given: &[Given],
+    externals: u32,
+    p: u64,
+    wanted: &[u64],
+) -> Result<bool, Fail> {
+    match point_of(alloc, given, externals, p)? {
+        Err(PointFault::RulesOpen { vector }) => Ok(vector.entries() == wanted),
+        _ => Ok(false),
+    }
+}
+
+fn names(
+    alloc: Global,
+    given: &[Given],
+    externals: u32,
+    p: u64,
+    wanted: u64,
+) -> Result<bool, Fail> {
+    match point_of(alloc, given, externals, p)? {
+        Err(PointFault::Composite(Composite { divisor })) => Ok(divisor == wanted),
+        _ => Ok(false),
+    }
+}
+
+// p1 and p2 are massless, and the square of their sum is 5.
+const TRIANGLE: &[Given] = &[
+    (&[1, 0], &[1, 0], 0),
+    (&[0, 1], &[0, 1], 0),
+    (&[1, 1], &[1, 1], 5),
+];
+
+// The same with 2 for 5.
+const TRIANGLE_BY_3: &[Given] = &[
+    (&[1, 0], &[1, 0], 0),
+    (&[0, 1], &[0, 1], 0),
+    (&[1, 1], &[1, 1], 2),
+];
+
+// p1 p2 is half of it.
 #[test]
 fn gives_the_points_of_the_triangle(rt: HostRuntime) -> Result<(), Fail> {
-    // p1 p2 is s / 2, for s = 5
-    for (p, s, half) in [(101, 5, 53), (3, 2, 1), (15, 5, 10)] {
-        let rules = triangle(rt.alloc(), s)?;
-        let products = point_of(rt.alloc(), &rules, 2, p)?.ok().ok_or("no point")?;
-        assert_eq!(rt; products.as_slice(), [0, half, 0].as_slice(), "modulo {p}");
-    }
+    assert!(rt; gives(rt.alloc(), TRIANGLE, 2, 101, &[0, 53, 0])?);
+    assert!(rt; gives(rt.alloc(), TRIANGLE_BY_3, 2, 3, &[0, 1, 0])?);
+    assert!(rt; gives(rt.alloc(), TRIANGLE, 2, 15, &[0, 10, 0])?);
     Ok(())
 }
 
+// p1, p2, p3 and -p1-p2-p3 are massless; the squares s of p1 + p2 and t of p2 + p3 are 5 and 11.
+const SQUARE: &[Given] = &[
+    (&[1, 0, 0], &[1, 0, 0], 0),
+    (&[0, 1, 0], &[0, 1, 0], 0),
+    (&[0, 0, 1], &[0, 0, 1], 0),
+    (&[-1, -1, -1], &[-1, -1, -1], 0),
+    (&[1, 1, 0], &[1, 1, 0], 5),
+    (&[0, 1, 1], &[0, 1, 1], 11),
+];
+
+// The same with 2 and 2.
+const SQUARE_BY_3: &[Given] = &[
+    (&[1, 0, 0], &[1, 0, 0], 0),
+    (&[0, 1, 0], &[0, 1, 0], 0),
+    (&[0, 0, 1], &[0, 0, 1], 0),
+    (&[-1, -1, -1], &[-1, -1, -1], 0),
+    (&[1, 1, 0], &[1, 1, 0], 2),
+    (&[0, 1, 1], &[0, 1, 1], 2),
+];
+
+// p1 p2 is s / 2, p2 p3 is t / 2, and p1 p3 is -(s + t) / 2.
 #[test]
 fn gives_the_points_of_the_box(rt: HostRuntime) -> Result<(), Fail> {
-    // p1 p2 is s / 2, p2 p3 is t / 2, and p1 p3 is -(s + t) / 2, for s = 5 and t = 11
-    for (p, s, t, first, second, third) in [
-        (101, 5, 11, 53, 93, 56),
-        (3, 2, 2, 1, 1, 1),
-        (15, 5, 11, 10, 7, 13),
-    ] {
-        let rules = square(rt.alloc(), s, t)?;
-        let products = point_of(rt.alloc(), &rules, 3, p)?.ok().ok_or("no point")?;
-        assert_eq!(rt;
-            products.as_slice(),
-            [0, first, second, 0, third, 0].as_slice(),
-            "modulo {p}"
-        );
-    }
+    assert!(rt; gives(rt.alloc(), SQUARE, 3, 101, &[0, 53, 93, 0, 56, 0])?);
+    assert!(rt; gives(rt.alloc(), SQUARE_BY_3, 3, 3, &[0, 1, 1, 0, 1, 0])?);
+    assert!(rt; gives(rt.alloc(), SQUARE, 3, 15, &[0, 10, 7, 0, 13, 0])?);
     Ok(())
 }
+
+const NOTHING_IS_0: &[Given] = &[(&[], &[], 0)];
+
+const NOTHING_IS_1: &[Given] = &[(&[], &[], 0), (&[], &[], 0), (&[], &[], 1)];
 
 #[test]
 fn needs_no_rule_without_momenta(rt: HostRuntime) -> Result<(), Fail> {
-    let mut rules = Vec::new(rt.alloc());
-    for _ in 0..2 {
-        let products = point_of(rt.alloc(), &rules, 0, 101)?
-            .ok()
-            .ok_or("no point")?;
-        assert_eq!(rt; products.len(), 0);
-        add(rt.alloc(), &mut rules, &[], &[], 0)?;
-    }
-    add(rt.alloc(), &mut rules, &[], &[], 1)?;
-    match point_of(rt.alloc(), &rules, 0, 101)? {
-        Err(
-            PointFault::RulesClash {
-                multipliers,
-                residue,
-            },
-        ) => {
-            assert_eq!(rt; multipliers.entries(), [0, 0, 1].as_slice());
-            assert_eq!(rt; residue, 1);
-        }
-        _ => return Err("no clash")?,
+    assert!(rt; gives(rt.alloc(), &[], 0, 101, &[])?);
+    assert!(rt; gives(rt.alloc(), NOTHING_IS_0, 0, 101, &[])?);
+    assert!(rt; clash(rt.alloc(), NOTHING_IS_1, 0, 101, &[0, 0, 1], 1)?);
+    Ok(())
+}
+
+const ONE_AND_TWO: &[Given] = &[(&[1], &[1], 1), (&[1], &[1], 2)];
+
+// The square of p1 is 1 and 2: the first rule minus the second says 0 = -1.
+#[test]
+fn tells_rules_that_clash(rt: HostRuntime) -> Result<(), Fail> {
+    for p in [101, 3, 15] {
+        assert!(rt; clash(rt.alloc(), ONE_AND_TWO, 1, p, &[1, p - 1], p - 1)?);
     }
     Ok(())
 }
 
-#[test]
-fn tells_rules_that_clash(rt: HostRuntime) -> Result<(), Fail> {
-    // the square of p1 is 1 and 2: the first rule minus the second says 0 = -1
-    for (p, minus_one) in [(101, 100), (3, 2), (15, 14)] {
-        let mut rules = Vec::new(rt.alloc());
-        add(rt.alloc(), &mut rules, &[1], &[1], 1)?;
-        add(rt.alloc(), &mut rules, &[1], &[1], 2)?;
-        match point_of(rt.alloc(), &rules, 1, p)? {
-            Err(
-                PointFault::RulesClash {
-                    multipliers,
-                    residue,
-                },
-            ) => {
-                assert_eq!(rt;
-                    multipliers.entries(),
-                    [1, minus_one].as_slice(),
-                    "modulo {p}"
-                );
-                assert_eq!(rt; residue, minus_one);
-            }
-            _ => return Err("no clash")?,
-        }
-    }
-    Ok(())
-}
+const ONE_AND_TWO_BESIDE_AN_OPEN_PRODUCT: &[Given] = &[
+    (&[1, 0], &[1, 0], 1),
+    (&[1, 0], &[1, 0], 2),
+];
 
 #[test]
 fn tells_a_clash_before_an_open_product(rt: HostRuntime) -> Result<(), Fail> {
-    let mut rules = Vec::new(rt.alloc());
-    add(rt.alloc(), &mut rules, &[1, 0], &[1, 0], 1)?;
-    add(rt.alloc(), &mut rules, &[1, 0], &[1, 0], 2)?;
-    match point_of(rt.alloc(), &rules, 2, 101)? {
-        Err(
-            PointFault::RulesClash {
-                multipliers,
-                residue,
-            },
-        ) => {
-            assert_eq!(rt; multipliers.entries(), [1, 100].as_slice());
-            assert_eq!(rt; residue, 100);
-        }
-        _ => return Err("no clash")?,
-    }
+    let given = ONE_AND_TWO_BESIDE_AN_OPEN_PRODUCT;
+    assert!(rt; clash(rt.alloc(), given, 2, 101, &[1, 100], 100)?);
     Ok(())
 }
+
+// 2 p1 p2 + p2 p2 is known alone: (0, 1, -2) is the only vector that begins with 1.
+const ONE_SUM_IS_5: &[Given] = &[(&[1, 0], &[1, 0], 0), (&[1, 1], &[1, 1], 5)];
+
+const ONE_SUM_IS_2: &[Given] = &[(&[1, 0], &[1, 0], 0), (&[1, 1], &[1, 1], 2)];
 
 #[test]
 fn tells_a_product_that_stays_open(rt: HostRuntime) -> Result<(), Fail> {
-    // 2 p1 p2 + p2 p2 is known alone: (0, 1, -2) is the only vector that begins with 1
-    for (p, s, minus_two) in [(101, 5, 99), (3, 2, 1), (15, 5, 13)] {
-        let mut rules = Vec::new(rt.alloc());
-        add(rt.alloc(), &mut rules, &[1, 0], &[1, 0], 0)?;
-        add(rt.alloc(), &mut rules, &[1, 1], &[1, 1], s)?;
-        match point_of(rt.alloc(), &rules, 2, p)? {
-            Err(PointFault::RulesOpen { vector }) => {
-                assert_eq!(rt;
-                    vector.entries(),
-                    [0, 1, minus_two].as_slice(),
-                    "modulo {p}"
-                );
-            }
-            _ => return Err("nothing is open")?,
-        }
-    }
+    assert!(rt; is_open(rt.alloc(), ONE_SUM_IS_5, 2, 101, &[0, 1, 99])?);
+    assert!(rt; is_open(rt.alloc(), ONE_SUM_IS_2, 2, 3, &[0, 1, 1])?);
+    assert!(rt; is_open(rt.alloc(), ONE_SUM_IS_5, 2, 15, &[0, 1, 13])?);
     Ok(())
 }
 
+const THREE_TIMES_THE_SQUARE: &[Given] = &[(&[3], &[1], 0)];
+
+// 3 has an inverse modulo 101, and none modulo 15.
 #[test]
 fn names_a_divisor_of_15(rt: HostRuntime) -> Result<(), Fail> {
-    let mut rules = Vec::new(rt.alloc());
-    add(rt.alloc(), &mut rules, &[3], &[1], 0)?;
-    match point_of(rt.alloc(), &rules, 1, 15)? {
-        Err(PointFault::Composite(composite)) => {
-            assert_eq!(rt; composite, Composite { divisor: 3 });
-        }
-        _ => return Err("no divisor")?,
-    }
-    // 3 has an inverse modulo 101
-    let products = point_of(rt.alloc(), &rules, 1, 101)?
-        .ok()
-        .ok_or("no point")?;
-    assert_eq!(rt; products.as_slice(), [0].as_slice());
+    assert!(rt; names(rt.alloc(), THREE_TIMES_THE_SQUARE, 1, 15, 3)?);
+    assert!(rt; gives(rt.alloc(), THREE_TIMES_THE_SQUARE, 1, 101, &[0])?);
     Ok(())
+}
+
+// Numbers and their residues modulo 15.
+const RESIDUES: &[(i64, u64)] = &[
+    (0, 0),
+    (14, 14),
+    (15, 0),
+    (-1, 14),
+    (-15, 0),
+    (-16, 14),
+    (i64::MIN, 7),
+];
+
+fn all_are_residues(modulus: &Modulus) -> bool {
+    for (number, value) in RESIDUES {
+        if residue(*number, modulus) != *value {
+            return false;
+        }
+    }
+    true
 }
 
 #[test]
 fn gives_residues_of_whole_numbers(rt: HostRuntime) -> Result<(), Fail> {
-    let modulus = Modulus::new(15)?;
-    for (number, value) in [
-        (0, 0),
-        (14, 14),
-        (15, 0),
-        (-1, 14),
-        (-15, 0),
-        (-16, 14),
-        (i64::MIN, 7),
-    ] {
-        assert_eq!(rt; residue(number, &modulus), value, "{number}");
-    }
+    assert!(rt; all_are_residues(&Modulus::new(15)?));
     Ok(())
 }
 
+fn fit(alloc: Global, given: &[Given], externals: u32) -> Result<bool, Fail> {
+    let rules = rules_of(alloc, given)?;
+    Ok(rules_fit(&rules, externals, &Modulus::new(101)?))
+}
+
+// The last rule of each doesn't fit two momenta modulo 101.
+const UNFIT: &[&[Given]] = &[
+    &[(&[1, 0], &[1, 0], 0), (&[1, 0], &[0, 1], 101)],
+    &[(&[1, 0], &[1, 0], 0), (&[1], &[0, 1], 0)],
+    &[(&[1, 0], &[1, 0], 0), (&[1, 0], &[1], 0)],
+];
+
+fn none_fits(alloc: Global) -> Result<bool, Fail> {
+    for given in UNFIT {
+        if fit(alloc, given, 2)? {
+            return Ok(false);
+        }
+    }
+    Ok(true)
+}
+
+const FIT: &[Given] = &[(&[1, 0], &[0, 1], 100)];
+
 #[test]
 fn tells_which_rules_a_point_takes(rt: HostRuntime) -> Result<(), Fail> {
-    let alloc = rt.alloc();
-    let modulus = Modulus::new(101)?;
-    let mut rules = Vec::new(alloc);
-    add(alloc, &mut rules, &[1, 0], &[0, 1], 100)?;
-    assert!(rt; rules_fit(&rules, 2, &modulus));
-    assert!(rt; !rules_fit(&rules, 1, &modulus) && !rules_fit(&rules, 3, &modulus));
-    for (left, right, value) in [
-        ([1, 0].as_slice(), [0, 1].as_slice(), 101),
-        (&[1], &[0, 1], 0),
-        (&[1, 0], &[1], 0),
-    ] {
-        let mut rules = Vec::new(alloc);
-        add(alloc, &mut rules, &[1, 0], &[1, 0], 0)?;
-        add(alloc, &mut rules, left, right, value)?;
-        assert!(rt; !rules_fit(&rules, 2, &modulus), "{value}");
-    }
+    assert!(rt; fit(rt.alloc(), FIT, 2)?);
+    assert!(rt; !fit(rt.alloc(), FIT, 1)? && !fit(rt.alloc(), FIT, 3)?);
+    assert!(rt; none_fits(rt.alloc())?);
     Ok(())
 }
 

@@ -4,8 +4,8 @@
 use crate::board::Board;
 use crate::records::Record;
 use crate::rows::Rows;
-use crate::task_tests::{Terms, computed};
-use crate::tests::{Wrong, rows_of};
+use crate::task_tests::computed;
+use crate::tests::{Terms, Wrong, rows_of};
 use field_word::Modulus;
 use integral_index::{Order, Unit};
 use sparse_row::copies;
@@ -79,28 +79,36 @@ const VACUUM: [Terms; 4] = [
     ],
 ];
 
+const OF_A_SUBSECTOR: Terms = &[
+    ([1, 2, 0], 100),
+    ([2, 1, 0], 1),
+    ([2, 0, 1], 100),
+    ([0, 2, 1], 1),
+];
+
+const OF_THE_CORNER: Terms = &[([2, 1, 0], 25), ([2, 0, 1], 76), ([1, 1, 1], 1)];
+
+const OF_THE_SECOND_LINE: Terms = &[
+    ([2, 1, 0], 84),
+    ([1, 0, 2], 17),
+    ([2, 0, 1], 17),
+    ([0, 1, 2], 84),
+    ([1, 2, 1], 1),
+];
+
+const OF_THE_FIRST_LINE: Terms = &[
+    ([2, 1, 0], 84),
+    ([1, 0, 2], 84),
+    ([2, 0, 1], 17),
+    ([0, 1, 2], 17),
+    ([2, 1, 1], 1),
+];
+
 const VACUUM_TABLE: [Terms; 4] = [
-    &[
-        ([1, 2, 0], 100),
-        ([2, 1, 0], 1),
-        ([2, 0, 1], 100),
-        ([0, 2, 1], 1),
-    ],
-    &[([2, 1, 0], 25), ([2, 0, 1], 76), ([1, 1, 1], 1)],
-    &[
-        ([2, 1, 0], 84),
-        ([1, 0, 2], 17),
-        ([2, 0, 1], 17),
-        ([0, 1, 2], 84),
-        ([1, 2, 1], 1),
-    ],
-    &[
-        ([2, 1, 0], 84),
-        ([1, 0, 2], 84),
-        ([2, 0, 1], 17),
-        ([0, 1, 2], 17),
-        ([2, 1, 1], 1),
-    ],
+    OF_A_SUBSECTOR,
+    OF_THE_CORNER,
+    OF_THE_SECOND_LINE,
+    OF_THE_FIRST_LINE,
 ];
 
 const TOP: Unit = Unit {
@@ -286,33 +294,38 @@ fn all_orders_of_the_vacuum_end_in_one_table(rt: HostRuntime) -> Result<(), Fail
     Ok(())
 }
 
+fn has_counts(board: &Board, forward: u64, back: u64) -> bool {
+    board.unit_count() == 4 && board.forward_count() == forward && board.back_count() == back
+}
+
+// The board of the vacuum, after so many events.
+fn vacuum_after(alloc: Global, events: u32) -> Result<Board, Fail> {
+    let mut board = opened(alloc, &VACUUM, Modulus::new(101)?)?;
+    go_on_for(&mut board, events)?;
+    Ok(board)
+}
+
 #[test]
 fn a_board_counts_its_units(rt: HostRuntime) -> Result<(), Fail> {
-    let alloc = rt.alloc();
-    let p = Modulus::new(101)?;
-    let mut board = opened(alloc, &VACUUM, p)?;
-    assert_eq!(rt; board.unit_count(), 4);
-    assert_eq!(rt; board.forward_count(), 0);
+    let mut board = vacuum_after(rt.alloc(), 0)?;
+    assert!(rt; has_counts(&board, 0, 0));
     go_on_for(&mut board, 3)?;
-    assert_eq!(rt; board.forward_count(), 3);
-    assert_eq!(rt; board.back_count(), 0);
+    assert!(rt; has_counts(&board, 3, 0));
     go_on_for(&mut board, 4)?;
-    assert_eq!(rt; board.forward_count(), 4);
-    assert_eq!(rt; board.back_count(), 3);
-    assert!(rt; !board.is_done());
+    assert!(rt; has_counts(&board, 4, 3) && !board.is_done());
     Ok(())
+}
+
+fn has_nothing_ready(board: &Board) -> Result<bool, Wrong> {
+    Ok(board.ready(&[])?.is_none())
 }
 
 #[test]
 fn a_done_board_has_nothing_ready(rt: HostRuntime) -> Result<(), Fail> {
-    let alloc = rt.alloc();
-    let p = Modulus::new(101)?;
-    let mut board = opened(alloc, &VACUUM, p)?;
-    go_on_for(&mut board, 8)?;
-    assert!(rt; board.is_done());
-    assert!(rt; board.ready(&[])?.is_none());
-    let wanted = Rows::of(rows_of(alloc, 3, &VACUUM_TABLE, &p)?);
-    assert!(rt; gives(alloc, &board, &wanted)?);
+    let board = vacuum_after(rt.alloc(), 8)?;
+    assert!(rt; board.is_done() && has_nothing_ready(&board)?);
+    let wanted = Rows::of(rows_of(rt.alloc(), 3, &VACUUM_TABLE, &board.modulus())?);
+    assert!(rt; gives(rt.alloc(), &board, &wanted)?);
     Ok(())
 }
 
@@ -336,8 +349,8 @@ fn accepts_back(alloc: Global, board: &Board, rows: &[Terms]) -> Result<bool, Wr
 }
 
 // The forward rows of the vacuum's top. The rest is one row, which is the table's first.
-const TOP_ROWS: [Terms; 3] = [
-    &[([2, 1, 0], 25), ([2, 0, 1], 76), ([1, 1, 1], 1)],
+const TOP_ROWS: &[Terms] = &[
+    OF_THE_CORNER,
     &[
         ([1, 2, 0], 84),
         ([1, 0, 2], 17),
@@ -345,46 +358,57 @@ const TOP_ROWS: [Terms; 3] = [
         ([0, 2, 1], 17),
         ([1, 2, 1], 1),
     ],
-    &[
-        ([2, 1, 0], 84),
-        ([1, 0, 2], 84),
-        ([2, 0, 1], 17),
-        ([0, 1, 2], 17),
-        ([2, 1, 1], 1),
-    ],
+    OF_THE_FIRST_LINE,
 ];
+
+const REST: &[Terms] = &[OF_A_SUBSECTOR];
+
+// A pivot other than 1, a pivot twice, and an integral that no equation shows.
+const CHANGED: &[&[Terms]] = &[
+    &[&[([1, 1, 1], 2), ([2, 1, 0], 25)]],
+    &[OF_THE_CORNER, &[([1, 1, 1], 1)]],
+    &[&[([1, 1, 1], 1), ([3, 1, 0], 25)]],
+];
+
+fn accepts_some(alloc: Global, board: &Board, changed: &[&[Terms]]) -> Result<bool, Wrong> {
+    for rows in changed {
+        if accepts_forward(alloc, board, TOP, rows, REST)? {
+            return Ok(true);
+        }
+    }
+    Ok(false)
+}
 
 #[test]
 fn changed_forward_records_are_refused(rt: HostRuntime) -> Result<(), Fail> {
-    let alloc = rt.alloc();
-    let p = Modulus::new(101)?;
-    let board = opened(alloc, &VACUUM, p)?;
-    let rest: [Terms; 1] = [VACUUM_TABLE[0]];
-    assert!(rt; accepts_forward(alloc, &board, TOP, &TOP_ROWS, &rest)?);
-    let changed: [Terms; 1] = [&[([1, 1, 1], 2), ([2, 1, 0], 25)]];
-    assert!(rt; !accepts_forward(alloc, &board, TOP, &changed, &rest)?);
-    let twice: [Terms; 2] = [TOP_ROWS[0], &[([1, 1, 1], 1)]];
-    assert!(rt; !accepts_forward(alloc, &board, TOP, &twice, &rest)?);
-    let foreign: [Terms; 1] = [&[([1, 1, 1], 1), ([3, 1, 0], 25)]];
-    assert!(rt; !accepts_forward(alloc, &board, TOP, &foreign, &rest)?);
-    assert!(rt; !accepts_forward(alloc, &board, LOW, &rest, &[])?);
+    let board = vacuum_after(rt.alloc(), 0)?;
+    assert!(rt; accepts_forward(rt.alloc(), &board, TOP, TOP_ROWS, REST)?);
+    assert!(rt; !accepts_some(rt.alloc(), &board, CHANGED)?);
+    assert!(rt; !accepts_forward(rt.alloc(), &board, LOW, REST, &[])?);
     Ok(())
 }
+
+const BACK_ROWS: &[Terms] = &[OF_THE_CORNER, OF_THE_SECOND_LINE, OF_THE_FIRST_LINE];
+
+const FEWER: &[Terms] = &[OF_THE_CORNER, OF_THE_SECOND_LINE];
+
+// The last row shows an integral that the equations show, and that its back substitution doesn't.
+const CHANGED_BACK_ROWS: &[Terms] = &[
+    OF_THE_CORNER,
+    OF_THE_SECOND_LINE,
+    &[([2, 1, 1], 1), ([0, 2, 1], 1)],
+];
 
 // All units but the top have back rows after seven events.
 #[test]
 fn changed_back_records_are_refused(rt: HostRuntime) -> Result<(), Fail> {
-    let alloc = rt.alloc();
-    let p = Modulus::new(101)?;
-    let mut board = opened(alloc, &VACUUM, p)?;
-    let real: [Terms; 3] = [VACUUM_TABLE[1], VACUUM_TABLE[2], VACUUM_TABLE[3]];
-    assert!(rt; !accepts_back(alloc, &board, &real)?);
+    let mut board = vacuum_after(rt.alloc(), 0)?;
+    assert!(rt; !accepts_back(rt.alloc(), &board, BACK_ROWS)?);
     go_on_for(&mut board, 4)?;
-    assert!(rt; !accepts_back(alloc, &board, &real)?);
+    assert!(rt; !accepts_back(rt.alloc(), &board, BACK_ROWS)?);
     go_on_for(&mut board, 3)?;
-    assert!(rt; accepts_back(alloc, &board, &real)?);
-    assert!(rt; !accepts_back(alloc, &board, &real[..2])?);
-    let known: [Terms; 3] = [real[0], real[1], &[([2, 1, 1], 1), ([0, 2, 1], 1)]];
-    assert!(rt; !accepts_back(alloc, &board, &known)?);
+    assert!(rt; accepts_back(rt.alloc(), &board, BACK_ROWS)?);
+    assert!(rt; !accepts_back(rt.alloc(), &board, FEWER)?);
+    assert!(rt; !accepts_back(rt.alloc(), &board, CHANGED_BACK_ROWS)?);
     Ok(())
 }

@@ -12,9 +12,10 @@ use crate::acceptance::{
 use crate::records::Record;
 use crate::rows::Rows;
 use crate::task::Task;
-use crate::tests::{Wrong, row_of, rows_of};
+use crate::tests::{Terms, Wrong, row_of, rows_of};
 use field_word::Modulus;
 use integral_index::{Order, Unit};
+use out_of_memory::OutOfMemory;
 use sector_forward::ForwardFault;
 use sparse_row::Row;
 use std::alloc::Global;
@@ -22,8 +23,6 @@ use std::marker::Brand;
 use std::sync::ledger::{Blank, Ledger};
 use std::test::Fail;
 use step_counter::Steps;
-
-pub(crate) type Terms = &'static [([i8; 3], u64)];
 
 const TOP: Unit = Unit {
     family: 0,
@@ -108,121 +107,172 @@ fn are(alloc: Global, rows: &Rows, wanted: &[Terms], modulus: &Modulus) -> Resul
     Ok(rows.equals(&Rows::of(rows_of(alloc, 2, wanted, modulus)?)))
 }
 
+fn is_forward(
+    alloc: Global,
+    entry: &Record,
+    wanted_rows: &[Terms],
+    wanted_rest: &[Terms],
+    modulus: &Modulus,
+) -> Result<bool, Wrong> {
+    match entry {
+        Record::Forward { unit, rows, rest } => Ok(
+            *unit == TOP
+                && are(alloc, rows, wanted_rows, modulus)?
+                && are(alloc, rest, wanted_rest, modulus)?,
+        ),
+        Record::Back { .. } => Ok(false),
+    }
+}
+
+fn is_back(
+    alloc: Global,
+    entry: &Record,
+    wanted: &[Terms],
+    modulus: &Modulus,
+) -> Result<bool, Wrong> {
+    match entry {
+        Record::Forward { .. } => Ok(false),
+        Record::Back { unit, rows } => Ok(*unit == TOP && are(alloc, rows, wanted, modulus)?),
+    }
+}
+
+const ALIKE: &[Terms] = &[
+    &[([2, 1, 0], 1), ([1, 0, 0], 1)],
+    &[([2, 1, 0], 1), ([1, 0, 0], 3)],
+];
+
 // The difference of the two rows is 2 times [1, 0].
 #[test]
 fn a_forward_task_gives_its_rows_and_the_rest(rt: HostRuntime) -> Result<(), Fail> {
     let alloc = rt.alloc();
     let p = Modulus::new(101)?;
-    let taken: [Terms; 2] = [
-        &[([2, 1, 0], 1), ([1, 0, 0], 1)],
-        &[([2, 1, 0], 1), ([1, 0, 0], 3)],
-    ];
-    let (task, entry) = computed(forward_task(alloc, &taken, p)?)?;
-    assert_eq!(rt; task.unit(), TOP);
-    match &entry {
-        Record::Forward { unit, rows, rest } => {
-            assert_eq!(rt; *unit, TOP);
-            assert!(rt; are(alloc, rows, &[&[([2, 1, 0], 1)]], &p)?);
-            assert!(rt; are(alloc, rest, &[&[([1, 0, 0], 1)]], &p)?);
-        }
-        Record::Back { .. } => assert!(rt; false),
-    }
+    let (task, entry) = computed(forward_task(alloc, ALIKE, p)?)?;
+    let (rows, rest): ([Terms; 1], [Terms; 1]) = ([&[([2, 1, 0], 1)]], [&[([1, 0, 0], 1)]]);
+    assert!(rt; task.unit() == TOP && is_forward(alloc, &entry, &rows, &rest, &p)?);
     Ok(())
 }
+
+const ABOVE: &[Terms] = &[&[([1, 1, 0], 1), ([0, 1, 0], 5), ([1, 0, 0], 7)]];
+
+const BELOW: &[Terms] = &[&[([0, 1, 0], 1), ([1, 0, 0], 4)]];
+
+const OTHER_BELOW: &[Terms] = &[&[([0, 1, 0], 1), ([1, 0, 0], 3)]];
 
 // 5 times the row below takes 5 * 4 = 20 of [1, 0] away, and 7 - 20 = 88 modulo 101.
 #[test]
 fn a_back_task_gives_its_rows(rt: HostRuntime) -> Result<(), Fail> {
     let alloc = rt.alloc();
     let p = Modulus::new(101)?;
-    let rows: [Terms; 1] = [&[([1, 1, 0], 1), ([0, 1, 0], 5), ([1, 0, 0], 7)]];
-    let below: [Terms; 1] = [&[([0, 1, 0], 1), ([1, 0, 0], 4)]];
-    let (_task, entry) = computed(back_task(alloc, &rows, &below, p)?)?;
-    assert_eq!(rt; entry.unit(), TOP);
-    match &entry {
-        Record::Forward { .. } => assert!(rt; false),
-        Record::Back { unit: _, rows } => {
-            assert!(rt; are(alloc, rows, &[&[([1, 1, 0], 1), ([1, 0, 0], 88)]], &p)?);
-        }
-    }
+    let (_task, entry) = computed(back_task(alloc, ABOVE, BELOW, p)?)?;
+    let rows: [Terms; 1] = [&[([1, 1, 0], 1), ([1, 0, 0], 88)]];
+    assert!(rt; entry.unit() == TOP && is_back(alloc, &entry, &rows, &p)?);
     Ok(())
+}
+
+fn is_as_its_copy(task: &Task) -> Result<bool, OutOfMemory> {
+    let copy = task.copy()?;
+    Ok(task.same(&copy))
 }
 
 #[test]
 fn a_task_is_the_same_as_its_copy_alone(rt: HostRuntime) -> Result<(), Fail> {
     let alloc = rt.alloc();
     let p = Modulus::new(101)?;
-    let rows: [Terms; 1] = [&[([1, 1, 0], 1), ([0, 1, 0], 5)]];
-    let task = back_task(alloc, &rows, &[&[([0, 1, 0], 1), ([1, 0, 0], 4)]], p)?;
-    let copy = task.copy()?;
-    assert!(rt; task.same(&copy));
-    let other = back_task(alloc, &rows, &[&[([0, 1, 0], 1), ([1, 0, 0], 3)]], p)?;
-    assert!(rt; !task.same(&other));
-    let forward = forward_task(alloc, &rows, p)?;
-    assert!(rt; !task.same(&forward));
+    let task = back_task(alloc, ABOVE, BELOW, p)?;
+    assert!(rt; is_as_its_copy(&task)?);
+    let other = back_task(alloc, ABOVE, OTHER_BELOW, p)?;
+    let forward = forward_task(alloc, ABOVE, p)?;
+    assert!(rt; !task.same(&other) && !task.same(&forward));
     Ok(())
 }
+
+const RULES: &[Terms] = &[&[([2, 1, 0], 1), ([1, 0, 0], 7)], &[([1, 1, 0], 1)]];
+
+// A pivot twice, one that another row shows, one other than 1, and one of a lesser unit.
+const NO_RULES: &[&[Terms]] = &[
+    &[&[([1, 1, 0], 1), ([1, 0, 0], 7)], &[([1, 1, 0], 1)]],
+    &[&[([2, 1, 0], 1), ([1, 1, 0], 7)], &[([1, 1, 0], 1)]],
+    &[&[([1, 1, 0], 2)]],
+    &[&[([0, 1, 0], 1)]],
+];
 
 fn are_rules_of_top(alloc: Global, rows: &[Terms], modulus: &Modulus) -> Result<bool, Wrong> {
     let rows = rows_of(alloc, 2, rows, modulus)?;
     Ok(are_rules(&rows, TOP, Order::Standard, modulus))
 }
 
+fn none_are_rules(alloc: Global, lists: &[&[Terms]], modulus: &Modulus) -> Result<bool, Wrong> {
+    for rows in lists {
+        if are_rules_of_top(alloc, rows, modulus)? {
+            return Ok(false);
+        }
+    }
+    Ok(true)
+}
+
 #[test]
 fn rules_have_pivots_of_their_own(rt: HostRuntime) -> Result<(), Fail> {
-    let alloc = rt.alloc();
     let p = Modulus::new(101)?;
-    let good: [Terms; 2] = [&[([2, 1, 0], 1), ([1, 0, 0], 7)], &[([1, 1, 0], 1)]];
-    assert!(rt; are_rules_of_top(alloc, &good, &p)?);
-    let twice: [Terms; 2] = [&[([1, 1, 0], 1), ([1, 0, 0], 7)], &[([1, 1, 0], 1)]];
-    assert!(rt; !are_rules_of_top(alloc, &twice, &p)?);
-    let shown: [Terms; 2] = [&[([2, 1, 0], 1), ([1, 1, 0], 7)], &[([1, 1, 0], 1)]];
-    assert!(rt; !are_rules_of_top(alloc, &shown, &p)?);
-    assert!(rt; !are_rules_of_top(alloc, &[&[([1, 1, 0], 2)]], &p)?);
-    assert!(rt; !are_rules_of_top(alloc, &[&[([0, 1, 0], 1)]], &p)?);
+    assert!(rt; are_rules_of_top(rt.alloc(), RULES, &p)?);
+    assert!(rt; none_are_rules(rt.alloc(), NO_RULES, &p)?);
     Ok(())
+}
+
+const TAKEN: &[Terms] = &[&[([1, 1, 0], 3), ([1, 0, 0], 2)]];
+
+const PIVOT: &[Terms] = &[&[([1, 1, 0], 1)]];
+
+const FOREIGN: &[Terms] = &[&[([0, 1, 0], 1)]];
+
+// Whether the pivot's row and this rest, written by a modulus of its own, fit the row that was taken.
+fn is_rest(alloc: Global, rest: &[Terms], written: &Modulus, p: &Modulus) -> Result<bool, Wrong> {
+    let taken = rows_of(alloc, 2, TAKEN, p)?;
+    let rows = rows_of(alloc, 2, PIVOT, p)?;
+    let rest = rows_of(alloc, 2, rest, written)?;
+    Ok(fit_forward(&taken, &rows, &rest, TOP, Order::Standard, p))
+}
+
+fn is_new(alloc: Global, rows: &[Terms], modulus: &Modulus) -> Result<bool, Wrong> {
+    let taken = rows_of(alloc, 2, TAKEN, modulus)?;
+    let rows = rows_of(alloc, 2, rows, modulus)?;
+    Ok(!show_nothing_new(&taken, &rows))
 }
 
 // The coefficient 101 is a residue modulo 103.
 #[test]
 fn rows_and_rest_come_from_the_taken_rows(rt: HostRuntime) -> Result<(), Fail> {
-    let alloc = rt.alloc();
-    let p = Modulus::new(101)?;
-    let large = Modulus::new(103)?;
-    let taken = rows_of(alloc, 2, &[&[([1, 1, 0], 3), ([1, 0, 0], 2)]], &p)?;
-    let rows = rows_of(alloc, 2, &[&[([1, 1, 0], 1)]], &p)?;
-    let rest = rows_of(alloc, 2, &[&[([1, 0, 0], 101)]], &large)?;
-    assert!(rt; !fit_forward(&taken, &rows, &rest, TOP, Order::Standard, &p));
-    assert!(rt; fit_forward(&taken, &rows, &rest, TOP, Order::Standard, &large));
-    let empty = rows_of(alloc, 2, &[&[]], &p)?;
-    assert!(rt; !fit_forward(&taken, &rows, &empty, TOP, Order::Standard, &p));
-    let foreign = rows_of(alloc, 2, &[&[([0, 1, 0], 1)]], &p)?;
-    assert!(rt; !fit_forward(&taken, &rows, &foreign, TOP, Order::Standard, &p));
-    assert!(rt; !show_nothing_new(&taken, &foreign));
+    let (p, large) = (Modulus::new(101)?, Modulus::new(103)?);
+    let wide: [Terms; 1] = [&[([1, 0, 0], 101)]];
+    assert!(rt; !is_rest(rt.alloc(), &wide, &large, &p)?);
+    assert!(rt; is_rest(rt.alloc(), &wide, &large, &large)?);
+    assert!(rt; !is_rest(rt.alloc(), &[&[]], &p, &p)?);
+    assert!(rt; !is_rest(rt.alloc(), FOREIGN, &p, &p)?);
+    assert!(rt; is_new(rt.alloc(), FOREIGN, &p)?);
     Ok(())
+}
+
+const FORWARD_ROWS: &[Terms] = &[&[([2, 1, 0], 1)], &[([1, 1, 0], 1), ([0, 1, 0], 5)]];
+
+const BACK_ROWS: &[Terms] = &[&[([1, 1, 0], 1), ([1, 0, 0], 88)], &[([2, 1, 0], 1)]];
+
+fn are_back_rows(alloc: Global, rows: &[Terms], modulus: &Modulus) -> Result<bool, Wrong> {
+    let forward = rows_of(alloc, 2, FORWARD_ROWS, modulus)?;
+    let rows = rows_of(alloc, 2, rows, modulus)?;
+    Ok(fit_back(&forward, &rows, TOP, Order::Standard, modulus))
+}
+
+fn are_clear(alloc: Global, rows: &[Terms], modulus: &Modulus) -> Result<bool, Wrong> {
+    let rules = rows_of(alloc, 2, FOREIGN, modulus)?;
+    let rows = rows_of(alloc, 2, rows, modulus)?;
+    Ok(show_no_pivot_of(&rules, &rows, Order::Standard))
 }
 
 #[test]
 fn back_rows_have_the_pivots_of_the_forward_rows(rt: HostRuntime) -> Result<(), Fail> {
-    let alloc = rt.alloc();
     let p = Modulus::new(101)?;
-    let forward = rows_of(
-        alloc,
-        2,
-        &[&[([2, 1, 0], 1)], &[([1, 1, 0], 1), ([0, 1, 0], 5)]],
-        &p,
-    )?;
-    let rows = rows_of(
-        alloc,
-        2,
-        &[&[([1, 1, 0], 1), ([1, 0, 0], 88)], &[([2, 1, 0], 1)]],
-        &p,
-    )?;
-    assert!(rt; fit_back(&forward, &rows, TOP, Order::Standard, &p));
-    let fewer = rows_of(alloc, 2, &[&[([2, 1, 0], 1)]], &p)?;
-    assert!(rt; !fit_back(&forward, &fewer, TOP, Order::Standard, &p));
-    let rule = rows_of(alloc, 2, &[&[([0, 1, 0], 1)]], &p)?;
-    assert!(rt; show_no_pivot_of(&rule, &rows, Order::Standard));
-    assert!(rt; !show_no_pivot_of(&rule, &forward, Order::Standard));
+    assert!(rt; are_back_rows(rt.alloc(), BACK_ROWS, &p)?);
+    assert!(rt; !are_back_rows(rt.alloc(), &[&[([2, 1, 0], 1)]], &p)?);
+    assert!(rt; are_clear(rt.alloc(), BACK_ROWS, &p)?);
+    assert!(rt; !are_clear(rt.alloc(), FORWARD_ROWS, &p)?);
     Ok(())
 }

@@ -136,113 +136,124 @@ fn value_of(
     Ok((form.coefficient(&master), form.terms().len()))
 }
 
+// The terms of a row, each with three indices, of which the first few count.
+pub(crate) type Terms = &'static [([i8; 3], u64)];
+
+fn table_of(alloc: Global, width: usize, p: u64, equations: &[Terms]) -> Result<Table, Fail> {
+    let modulus = Modulus::new(p)?;
+    let rows = rows_of(alloc, width, equations, &modulus)?;
+    Ok(reduce_plain(alloc, rows, modulus, Order::Standard)?)
+}
+
+// Whether each integral is just its multiple of the integral beside it.
+fn has_values(
+    alloc: Global,
+    table: &Table,
+    width: usize,
+    values: &[(&[i8], &[i8], u64)],
+) -> Result<bool, Wrong> {
+    for (x, master, coefficient) in values {
+        let (found, terms) = value_of(alloc, table, width, x, master)?;
+        if found != *coefficient || terms != 1 {
+            return Ok(false);
+        }
+    }
+    Ok(true)
+}
+
 // (d - 2a) I(a) = 2 a m2 I(a + 1) at d = 7, m2 = 3, for a = 1 and 2.
-const TADPOLE: [&[([i8; 3], u64)]; 2] = [
+const TADPOLE: &[Terms] = &[
     &[([1, 0, 0], 5), ([2, 0, 0], 95)],
     &[([2, 0, 0], 3), ([3, 0, 0], 89)],
 ];
 
 #[test]
 fn the_tadpole_reduces_to_one_master(rt: HostRuntime) -> Result<(), Fail> {
-    let alloc = rt.alloc();
-    let p = Modulus::new(101)?;
-    let table = reduce_plain(alloc, rows_of(alloc, 1, &TADPOLE, &p)?, p, Order::Standard)?;
-    assert_eq!(rt; table.rows().len(), 2);
-    assert_eq!(rt; value_of(alloc, &table, 1, &[1], &[1])?, (1, 1));
-    assert_eq!(rt; value_of(alloc, &table, 1, &[2], &[1])?, (85, 1));
-    assert_eq!(rt; value_of(alloc, &table, 1, &[3], &[1])?, (97, 1));
+    let table = table_of(rt.alloc(), 1, 101, TADPOLE)?;
+    let values: [(&[i8], &[i8], u64); 3] = [(&[1], &[1], 1), (&[2], &[1], 85), (&[3], &[1], 97)];
+    assert!(rt; table.rows().len() == 2 && has_values(rt.alloc(), &table, 1, &values)?);
     Ok(())
+}
+
+const TADPOLE_TABLE: &[Terms] = &[
+    &[([2, 0, 0], 1), ([1, 0, 0], 16)],
+    &[([3, 0, 0], 1), ([1, 0, 0], 4)],
+];
+
+// Whether the table is shown by multipliers for its rows, and by those that give the equations back.
+fn are_shown(alloc: Global, down: &[&[u64]], up: &[&[u64]]) -> Result<bool, Fail> {
+    let p = Modulus::new(101)?;
+    let equations = rows_of(alloc, 1, TADPOLE, &p)?;
+    let table = rows_of(alloc, 1, TADPOLE_TABLE, &p)?;
+    if down.len() != table.len() || up.len() != equations.len() {
+        return Ok(false);
+    }
+    let down = multiplier_lists(alloc, down, &equations, &p)?;
+    let up = multiplier_lists(alloc, up, &table, &p)?;
+    Ok(is_reduced(alloc, &equations, &table, &down, &up, Order::Standard, &p)?)
 }
 
 // The inverses of 95 and 89 are 84 and 42, and the multipliers follow.
 #[test]
 fn the_multipliers_of_the_tadpole_show_its_table(rt: HostRuntime) -> Result<(), Fail> {
-    let alloc = rt.alloc();
-    let p = Modulus::new(101)?;
-    let equations = rows_of(alloc, 1, &TADPOLE, &p)?;
-    let table = rows_of(
-        alloc,
-        1,
-        &[
-            &[([2, 0, 0], 1), ([1, 0, 0], 16)],
-            &[([3, 0, 0], 1), ([1, 0, 0], 4)],
-        ],
-        &p,
-    )?;
-    assert_eq!(rt; table.len(), 2);
-    assert_eq!(rt; equations.len(), 2);
-    let down = multiplier_lists(alloc, &[&[84, 0], &[21, 42]], &equations, &p)?;
-    let wrong = multiplier_lists(alloc, &[&[84, 0], &[21, 41]], &equations, &p)?;
-    let up = multiplier_lists(alloc, &[&[95, 0], &[3, 89]], &table, &p)?;
-    assert!(rt; is_reduced(alloc, &equations, &table, &down, &up, Order::Standard, &p)?);
-    assert!(rt; !is_reduced(alloc, &equations, &table, &wrong, &up, Order::Standard, &p)?);
+    let up: [&[u64]; 2] = [&[95, 0], &[3, 89]];
+    assert!(rt; are_shown(rt.alloc(), &[&[84, 0], &[21, 42]], &up)?);
+    assert!(rt; !are_shown(rt.alloc(), &[&[84, 0], &[21, 41]], &up)?);
     Ok(())
 }
+
+// The divisor by which the modulus is named.
+fn divisor_of(alloc: Global, p: u64, equations: &[Terms]) -> Result<Option<u64>, Fail> {
+    let modulus = Modulus::new(p)?;
+    let rows = rows_of(alloc, 1, equations, &modulus)?;
+    match reduce_plain(alloc, rows, modulus, Order::Standard) {
+        Err(ForwardFault::Composite(fault)) => Ok(Some(fault.divisor)),
+        _ => Ok(None),
+    }
+}
+
+const BY_15: &[Terms] = &[
+    &[([1, 0, 0], 5), ([2, 0, 0], 9)],
+    &[([2, 0, 0], 3), ([3, 0, 0], 3)],
+];
 
 // Modulo 15 the coefficient 9 of I(2) has no inverse.
 #[test]
 fn a_composite_modulus_is_named_by_a_divisor(rt: HostRuntime) -> Result<(), Fail> {
-    let alloc = rt.alloc();
-    let p = Modulus::new(15)?;
-    let rows = rows_of(
-        alloc,
-        1,
-        &[
-            &[([1, 0, 0], 5), ([2, 0, 0], 9)],
-            &[([2, 0, 0], 3), ([3, 0, 0], 3)],
-        ],
-        &p,
-    )?;
-    match reduce_plain(alloc, rows, p, Order::Standard) {
-        Ok(_) => assert!(rt; false, "a table"),
-        Err(ForwardFault::Composite(fault)) => assert_eq!(rt; fault.divisor, 3),
-        Err(ForwardFault::OutOfMemory) => assert!(rt; false, "out of memory"),
-    }
+    assert!(rt; divisor_of(rt.alloc(), 15, BY_15)? == Some(3));
     Ok(())
 }
+
+const BY_25: &[Terms] = &[
+    &[([1, 0, 0], 5), ([2, 0, 0], 19)],
+    &[([2, 0, 0], 3), ([3, 0, 0], 13)],
+];
 
 // Modulo 25 the coefficients 19 and 13 have inverses.
 #[test]
 fn a_composite_modulus_may_serve(rt: HostRuntime) -> Result<(), Fail> {
-    let alloc = rt.alloc();
-    let p = Modulus::new(25)?;
-    let rows = rows_of(
-        alloc,
-        1,
-        &[
-            &[([1, 0, 0], 5), ([2, 0, 0], 19)],
-            &[([2, 0, 0], 3), ([3, 0, 0], 13)],
-        ],
-        &p,
-    )?;
-    let table = reduce_plain(alloc, rows, p, Order::Standard)?;
-    assert_eq!(rt; value_of(alloc, &table, 1, &[2], &[1])?, (5, 1));
-    assert_eq!(rt; value_of(alloc, &table, 1, &[3], &[1])?, (20, 1));
+    let table = table_of(rt.alloc(), 1, 25, BY_25)?;
+    let values: [(&[i8], &[i8], u64); 2] = [(&[2], &[1], 5), (&[3], &[1], 20)];
+    assert!(rt; has_values(rt.alloc(), &table, 1, &values)?);
     Ok(())
 }
 
 // At d = 7, s = 5: 4 I(1,1) + 5 I(1,2) = 0 and 5 I(2,1) - 5 I(1,2) = 0.
+const BUBBLE: &[Terms] = &[
+    &[([1, 1, 0], 4), ([1, 2, 0], 5)],
+    &[([2, 1, 0], 5), ([1, 2, 0], 96)],
+];
+
 #[test]
 fn the_bubble_reduces_to_one_master(rt: HostRuntime) -> Result<(), Fail> {
-    let alloc = rt.alloc();
-    let p = Modulus::new(101)?;
-    let rows = rows_of(
-        alloc,
-        2,
-        &[
-            &[([1, 1, 0], 4), ([1, 2, 0], 5)],
-            &[([2, 1, 0], 5), ([1, 2, 0], 96)],
-        ],
-        &p,
-    )?;
-    let table = reduce_plain(alloc, rows, p, Order::Standard)?;
-    assert_eq!(rt; value_of(alloc, &table, 2, &[1, 2], &[1, 1])?, (80, 1));
-    assert_eq!(rt; value_of(alloc, &table, 2, &[2, 1], &[1, 1])?, (80, 1));
+    let table = table_of(rt.alloc(), 2, 101, BUBBLE)?;
+    let values: [(&[i8], &[i8], u64); 2] = [(&[1, 2], &[1, 1], 80), (&[2, 1], &[1, 1], 80)];
+    assert!(rt; has_values(rt.alloc(), &table, 2, &values)?);
     Ok(())
 }
 
 // At d = 7, s = 5, with the zero sectors left out.
-const TRIANGLE: [&[([i8; 3], u64)]; 12] = [
+const TRIANGLE: &[Terms] = &[
     &[([0, 1, 1], 5), ([-1, 1, 2], 100), ([-1, 2, 1], 100)],
     &[
         ([0, 1, 1], 100),
@@ -291,25 +302,27 @@ const TRIANGLE: [&[([i8; 3], u64)]; 12] = [
 
 #[test]
 fn the_triangle_reduces_to_the_bubble_in_it(rt: HostRuntime) -> Result<(), Fail> {
-    let alloc = rt.alloc();
-    let p = Modulus::new(101)?;
-    let table = reduce_plain(alloc, rows_of(alloc, 3, &TRIANGLE, &p)?, p, Order::Standard)?;
-    let bubble = [0, 1, 1];
-    assert_eq!(rt; value_of(alloc, &table, 3, &bubble, &bubble)?, (1, 1));
-    assert_eq!(rt; value_of(alloc, &table, 3, &[0, 1, 2], &bubble)?, (80, 1));
-    assert_eq!(rt; value_of(alloc, &table, 3, &[0, 2, 1], &bubble)?, (80, 1));
-    assert_eq!(rt; value_of(alloc, &table, 3, &[1, 1, 1], &bubble)?, (87, 1));
+    let table = table_of(rt.alloc(), 3, 101, TRIANGLE)?;
+    let values: [(&[i8], &[i8], u64); 4] = [
+        (&[0, 1, 1], &[0, 1, 1], 1),
+        (&[0, 1, 2], &[0, 1, 1], 80),
+        (&[0, 2, 1], &[0, 1, 1], 80),
+        (&[1, 1, 1], &[0, 1, 1], 87),
+    ];
+    assert!(rt; has_values(rt.alloc(), &table, 3, &values)?);
     Ok(())
+}
+
+fn is_zero(alloc: Global, table: &Table, sectors: &[u32], x: &[i8]) -> Result<bool, Wrong> {
+    let zeros = ZeroSectors::new(alloc, sectors)?;
+    let x = integral(alloc, 1, x)?;
+    Ok(table.normal_form(&x, &zeros)?.is_empty())
 }
 
 // An integral of a zero sector has the empty normal form.
 #[test]
 fn a_zero_sector_has_no_terms(rt: HostRuntime) -> Result<(), Fail> {
-    let alloc = rt.alloc();
-    let p = Modulus::new(101)?;
-    let table = reduce_plain(alloc, rows_of(alloc, 1, &TADPOLE, &p)?, p, Order::Standard)?;
-    let zeros = ZeroSectors::new(alloc, &[1])?;
-    let form = table.normal_form(&integral(alloc, 1, &[3])?, &zeros)?;
-    assert!(rt; form.is_empty());
+    let table = table_of(rt.alloc(), 1, 101, TADPOLE)?;
+    assert!(rt; is_zero(rt.alloc(), &table, &[1], &[3])?);
     Ok(())
 }
