@@ -1,10 +1,9 @@
 //! The seeds, the selection and the equations of small jobs, and jobs with too many of them, worked out by hand.
 
-use crate::plan_tests::plan_of;
-use crate::{Excess, File, InputFault, InputKind, Plan, PlanError};
+use crate::plan_tests::{Cause, Refused, is_refused, sound_plan};
+use crate::{Excess, File, InputFault, InputKind, Plan};
 use sparse_row::Row;
 use std::alloc::Global;
-use std::test::Fail;
 
 const BUBBLE_KINEMATICS: &'static str =
     "kinematics:\n  incoming_momenta: [p1]\n  outgoing_momenta: [p2]\n  momentum_conservation: [p2, p1]\n  kinematic_invariants: [[s, 2]]\n  scalarproduct_rules: [[[p1,p1], s]]\n";
@@ -61,10 +60,16 @@ const MANY_SELECTED: &'static str =
 const MANY_OF_BOTH: &'static str =
     "jobs:\n  - reduce_sectors:\n      reduce: [{topologies: [vac], sectors: [1], r: 43, s: 4}]\n      select_integrals: {select_mandatory_recursively: [{topologies: [vac], sectors: [1], r: 43, s: 4}]}\n      numeric_point: {prime: 101, d: 1/0}\n";
 
-// How many seeds, selected integrals and equations a plan has.
-fn sizes_of(plan: &Plan) -> Result<(u64, usize, usize), Fail> {
-    let rows = plan.equations()?;
-    Ok((plan.seed_count(), plan.selection().len(), rows.len()))
+// Whether a plan has so many seeds, selected integrals and equations.
+fn has_sizes(plan: &Plan, seeds: u64, selected: usize, equations: usize) -> bool {
+    match plan.equations() {
+        Ok(rows) => {
+            plan.seed_count() == seeds
+                && plan.selection().len() == selected
+                && rows.len() == equations
+        }
+        Err(_) => false,
+    }
 }
 
 fn is_empty_at(rows: &[Row], place: usize) -> bool {
@@ -74,20 +79,31 @@ fn is_empty_at(rows: &[Row], place: usize) -> bool {
     }
 }
 
-// One seed with two momenta and a symmetry, which leaves it as it is, and the selection of 1 + 2.
-#[test]
-fn plans_the_bubble(rt: HostRuntime) -> Result<(), Fail> {
-    let plan = plan_of(
-        rt.alloc(),
+fn has_empty_equation(plan: &Plan, place: usize) -> bool {
+    match plan.equations() {
+        Ok(rows) => is_empty_at(&rows, place),
+        Err(_) => false,
+    }
+}
+
+fn bubble(alloc: Global) -> Option<Plan> {
+    sound_plan(
+        alloc,
         BUBBLE_KINEMATICS,
         BUBBLE_FAMILY,
         BUBBLE_JOB,
         &[],
         &[],
-    )??;
-    assert_eq!(rt; sizes_of(&plan)?, (1, 3, 3));
-    assert!(rt; is_empty_at(&plan.equations()?, 2));
-    Ok(())
+    )
+}
+
+// One seed with two momenta and a symmetry, which leaves it as it is, and the selection of 1 + 2.
+#[test]
+fn plans_the_bubble(rt: HostRuntime) {
+    match bubble(rt.alloc()) {
+        Some(plan) => assert!(rt; has_sizes(&plan, 1, 3, 3) && has_empty_equation(&plan, 2)),
+        None => assert!(rt; false),
+    }
 }
 
 // Whether the selected integral at this place has these indices.
@@ -98,152 +114,152 @@ fn selects(plan: &Plan, place: usize, indices: &[i8]) -> bool {
     }
 }
 
-// Sectors 6 and 7 aren't zero: 3 + 1 seeds with three momenta. The list file names one of them again, and
-// one of sector 3, which is zero: both have fewer positive indices than the last seed.
-#[test]
-fn plans_the_triangle(rt: HostRuntime) -> Result<(), Fail> {
-    let plan = plan_of(
-        rt.alloc(),
+fn triangle(alloc: Global) -> Option<Plan> {
+    sound_plan(
+        alloc,
         TRIANGLE_KINEMATICS,
         TRIANGLE_FAMILY,
         TRIANGLE_JOB,
         &[],
         &["tri[0,1,2]\ntri[1,1,0]\n"],
-    )??;
-    assert_eq!(rt; sizes_of(&plan)?, (4, 5, 12));
-    assert!(rt; selects(&plan, 0, &[1, 1, 0]) && selects(&plan, 1, &[0, 1, 1]));
-    assert!(rt; selects(&plan, 2, &[0, 1, 2]) && selects(&plan, 3, &[0, 2, 1]));
-    assert!(rt; selects(&plan, 4, &[1, 1, 1]));
-    Ok(())
+    )
 }
 
-// A script enumerated 69 seeds, each with four momenta.
+// Sectors 6 and 7 aren't zero: 3 + 1 seeds with three momenta. The list file names one of them again, and
+// one of sector 3, which is zero: both have fewer positive indices than the last seed.
+fn is_triangle(plan: &Plan) -> bool {
+    has_sizes(plan, 4, 5, 12)
+        && selects(plan, 0, &[1, 1, 0])
+        && selects(plan, 1, &[0, 1, 1])
+        && selects(plan, 2, &[0, 1, 2])
+        && selects(plan, 3, &[0, 2, 1])
+        && selects(plan, 4, &[1, 1, 1])
+}
+
 #[test]
-fn plans_the_box(rt: HostRuntime) -> Result<(), Fail> {
-    let plan = plan_of(
-        rt.alloc(),
-        BOX_KINEMATICS,
-        BOX_FAMILY,
-        BOX_JOB,
-        &[],
-        &[BOX_LIST],
-    )??;
-    assert_eq!(rt; sizes_of(&plan)?, (69, 5, 276));
-    assert!(rt; plan.family_count() == 1 && plan.width(0) == 4);
-    Ok(())
-}
-
-// The fault of an input, or what there is too much of.
-#[derive(Clone, Copy, Debug, PartialEq, Eq, Drop)]
-enum Cause {
-    Input(InputFault),
-    TooMany(Excess, u64),
-    Other,
-}
-
-fn cause_of(outcome: &Result<Plan, PlanError>) -> Cause {
-    match outcome {
-        Err(PlanError::Input(fault)) => Cause::Input(*fault),
-        Err(PlanError::TooMany { what, count }) => Cause::TooMany(*what, *count),
-        _ => Cause::Other,
+fn plans_the_triangle(rt: HostRuntime) {
+    match triangle(rt.alloc()) {
+        Some(plan) => assert!(rt; is_triangle(&plan)),
+        None => assert!(rt; false),
     }
 }
 
-fn list_fault(number: u32, line: u32, kind: InputKind) -> Cause {
-    Cause::Input(InputFault {
-        file: File::List(number),
-        line,
-        kind,
-    })
+fn one_box(alloc: Global) -> Option<Plan> {
+    sound_plan(alloc, BOX_KINEMATICS, BOX_FAMILY, BOX_JOB, &[], &[BOX_LIST])
+}
+
+// A script enumerated 69 seeds, each with four momenta.
+fn is_box(plan: &Plan) -> bool {
+    has_sizes(plan, 69, 5, 276) && plan.family_count() == 1 && plan.width(0) == 4
+}
+
+#[test]
+fn plans_the_box(rt: HostRuntime) {
+    match one_box(rt.alloc()) {
+        Some(plan) => assert!(rt; is_box(&plan)),
+        None => assert!(rt; false),
+    }
 }
 
 // The first map exchanges the denominators. The second one makes (k1 - p1)^2 of the second, which is none.
-#[test]
-fn names_the_first_map_that_is_no_symmetry(rt: HostRuntime) -> Result<(), Fail> {
-    let outcome = plan_of(
-        rt.alloc(),
-        BUBBLE_KINEMATICS,
-        TWO_MAPS,
-        BUBBLE_JOB,
-        &[],
-        &[],
-    )?;
-    let fault = InputFault {
+const NO_SYMMETRY: Refused = Refused {
+    kinematics: BUBBLE_KINEMATICS,
+    families: TWO_MAPS,
+    jobs: BUBBLE_JOB,
+    words: &[],
+    lists: &[],
+    cause: Cause::Input(InputFault {
         file: File::Families,
         line: 7,
         kind: InputKind::NotAPermutation,
-    };
-    assert_eq!(rt; cause_of(&outcome), Cause::Input(fault));
-    Ok(())
+    }),
+};
+
+#[test]
+fn names_the_first_map_that_is_no_symmetry(rt: HostRuntime) {
+    assert!(rt; is_refused(rt.alloc(), &NO_SYMMETRY));
 }
 
 // The first list file has no fault, the second has one on its third line, behind a comment.
+const FAULT_OF_LISTS: Refused = Refused {
+    kinematics: crate::tests::ONE_MOMENTUM,
+    families: crate::tests::TWO_FAMILIES,
+    jobs: crate::tests::TWO_LISTS,
+    words: &["d=1/0"],
+    lists: &["sun[1,1,1,0,-1]\n", "bub[1,1]\n# two\nbub[1]\nsun[1]\n"],
+    cause: Cause::Input(InputFault {
+        file: File::List(1),
+        line: 3,
+        kind: InputKind::WrongCount,
+    }),
+};
+
 #[test]
-fn names_the_first_fault_of_lists(rt: HostRuntime) -> Result<(), Fail> {
-    let outcome = plan_of(
-        rt.alloc(),
-        crate::tests::ONE_MOMENTUM,
-        crate::tests::TWO_FAMILIES,
-        crate::tests::TWO_LISTS,
-        &["d=1/0"],
-        &["sun[1,1,1,0,-1]\n", "bub[1,1]\n# two\nbub[1]\nsun[1]\n"],
-    )?;
-    assert_eq!(rt; cause_of(&outcome), list_fault(1, 3, InputKind::WrongCount));
-    Ok(())
+fn names_the_first_fault_of_lists(rt: HostRuntime) {
+    assert!(rt; is_refused(rt.alloc(), &FAULT_OF_LISTS));
 }
 
 // A fault of a list file goes before too many seeds.
-#[test]
-fn refuses_many_seeds(rt: HostRuntime) -> Result<(), Fail> {
-    let alloc = rt.alloc();
-    let outcome = plan_of(
-        alloc,
-        BOX_KINEMATICS,
-        BOX_FAMILY,
-        MANY_SEEDS,
-        &[],
-        &["bix[1,1,1,1]"],
-    )?;
-    assert_eq!(rt;
-        cause_of(&outcome),
-        list_fault(0, 1, InputKind::UnknownName)
-    );
-    let outcome = plan_of(
-        alloc,
-        BOX_KINEMATICS,
-        BOX_FAMILY,
-        MANY_SEEDS,
-        &[],
-        &[BOX_LIST],
-    )?;
-    assert_eq!(rt; cause_of(&outcome), Cause::TooMany(Excess::Seeds, 131073));
-    Ok(())
-}
+const MANY_SEEDS_REFUSED: [Refused; 2] = [
+    Refused {
+        kinematics: BOX_KINEMATICS,
+        families: BOX_FAMILY,
+        jobs: MANY_SEEDS,
+        words: &[],
+        lists: &["bix[1,1,1,1]"],
+        cause: Cause::Input(InputFault {
+            file: File::List(0),
+            line: 1,
+            kind: InputKind::UnknownName,
+        }),
+    },
+    Refused {
+        kinematics: BOX_KINEMATICS,
+        families: BOX_FAMILY,
+        jobs: MANY_SEEDS,
+        words: &[],
+        lists: &[BOX_LIST],
+        cause: Cause::TooMany(Excess::Seeds, 131073),
+    },
+];
 
-fn five_loops_cause(alloc: Global, job: &str) -> Result<Cause, Fail> {
-    let outcome = plan_of(alloc, NO_MOMENTA, FIVE_LOOPS, job, &[], &[])?;
-    Ok(cause_of(&outcome))
+#[test]
+fn refuses_many_seeds(rt: HostRuntime) {
+    for refused in &MANY_SEEDS_REFUSED {
+        assert!(rt; is_refused(rt.alloc(), refused));
+    }
 }
 
 // The dimension, which divides by zero, comes last in each of these.
-#[test]
-fn tests_seeds_before_the_selection(rt: HostRuntime) -> Result<(), Fail> {
-    let cause = five_loops_cause(rt.alloc(), MANY_OF_BOTH)?;
-    assert_eq!(rt; cause, Cause::TooMany(Excess::Seeds, 131073));
-    Ok(())
+fn five_loops_have_too_many(alloc: Global, jobs: &'static str, what: Excess, count: u64) -> bool {
+    is_refused(
+        alloc,
+        &Refused {
+            kinematics: NO_MOMENTA,
+            families: FIVE_LOOPS,
+            jobs,
+            words: &[],
+            lists: &[],
+            cause: Cause::TooMany(what, count),
+        },
+    )
 }
 
 #[test]
-fn tests_the_selection_before_terms(rt: HostRuntime) -> Result<(), Fail> {
-    let cause = five_loops_cause(rt.alloc(), MANY_SELECTED)?;
-    assert_eq!(rt; cause, Cause::TooMany(Excess::Selected, 131073));
-    Ok(())
+fn tests_seeds_before_the_selection(rt: HostRuntime) {
+    let alloc = rt.alloc();
+    assert!(rt; five_loops_have_too_many(alloc, MANY_OF_BOTH, Excess::Seeds, 131073));
+}
+
+#[test]
+fn tests_the_selection_before_terms(rt: HostRuntime) {
+    let alloc = rt.alloc();
+    assert!(rt; five_loops_have_too_many(alloc, MANY_SELECTED, Excess::Selected, 131073));
 }
 
 // A seed has 5 * 5 equations of 15 * 15 + 15 + 1 terms: 2880 * 25 * 241 = 17352000.
 #[test]
-fn refuses_many_terms(rt: HostRuntime) -> Result<(), Fail> {
-    let cause = five_loops_cause(rt.alloc(), MANY_TERMS)?;
-    assert_eq!(rt; cause, Cause::TooMany(Excess::Terms, 17352000));
-    Ok(())
+fn refuses_many_terms(rt: HostRuntime) {
+    let alloc = rt.alloc();
+    assert!(rt; five_loops_have_too_many(alloc, MANY_TERMS, Excess::Terms, 17352000));
 }

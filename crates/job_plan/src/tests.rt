@@ -1,9 +1,8 @@
 //! Small jobs with what they say, and faults of several files in their order, worked out by hand.
 
-use crate::{File, InputFault, InputKind, Outline, Override, PlanError, outline, read_override};
+use crate::{File, InputKind, Outline, Override, PlanError, outline, read_override};
 use job_schema::{Divisor, Ratio, Setting};
 use std::alloc::Global;
-use std::test::Fail;
 use yaml_text::Tree;
 
 pub(crate) const KINEMATICS: &'static str =
@@ -179,87 +178,150 @@ const REFUSED: [Refused; 14] = [
 ];
 
 /// The words of a command, of which the first is the name of the job file.
-fn words_of(alloc: Global, words: &[&str]) -> Result<Vec<Override>, Fail> {
+fn words_of(alloc: Global, words: &[&str]) -> Option<Vec<Override>> {
     let mut made = Vec::new(alloc);
     let mut place = 2;
     for word in words {
         if word.len() > 1000 || place > 1000 {
-            return Err(Fail::from("too long"));
+            return None;
         }
-        made.push(read_override(alloc, place, word)?)?;
+        made.push(read_override(alloc, place, word).ok()?).ok()?;
         place += 1;
     }
-    Ok(made)
+    Some(made)
 }
 
-fn tree_of(alloc: Global, text: &str) -> Result<Tree, Fail> {
+fn tree_of(alloc: Global, text: &str) -> Option<Tree> {
     if text.len() > 1000 {
-        return Err(Fail::from("too long"));
+        return None;
     }
-    Ok(
-        yaml_text::read(alloc, text.as_bytes())
-            .ok()
-            .ok_or("no tree")?,
-    )
+    match yaml_text::read(alloc, text.as_bytes()) {
+        Ok(tree) => Some(tree),
+        Err(_) => None,
+    }
 }
 
+/// The trees of the three files.
+#[derive(Drop)]
+struct Trees {
+    kinematics: Tree,
+    families: Tree,
+    jobs: Tree,
+}
+
+fn trees_of(alloc: Global, kinematics: &str, families: &str, jobs: &str) -> Option<Trees> {
+    let kinematics = tree_of(alloc, kinematics)?;
+    let families = tree_of(alloc, families)?;
+    let jobs = tree_of(alloc, jobs)?;
+    Some(Trees {
+        kinematics,
+        families,
+        jobs,
+    })
+}
+
+/// What the files and the words say, or `None` where a text is no tree or too long, or memory was refused.
 pub(crate) fn outline_of(
     alloc: Global,
     kinematics: &str,
     families: &str,
     jobs: &str,
     words: &[&str],
-) -> Result<Result<Outline, PlanError>, Fail> {
-    let kinematics = tree_of(alloc, kinematics)?;
-    let families = tree_of(alloc, families)?;
-    let jobs = tree_of(alloc, jobs)?;
+) -> Option<Result<Outline, PlanError>> {
+    let trees = trees_of(alloc, kinematics, families, jobs)?;
     let words = words_of(alloc, words)?;
-    Ok(outline(alloc, &families, &kinematics, &jobs, &words))
+    Some(outline(
+        alloc,
+        &trees.families,
+        &trees.kinematics,
+        &trees.jobs,
+        &words,
+    ))
 }
 
-fn fault_of(alloc: Global, refused: &Refused) -> Result<Option<InputFault>, Fail> {
-    let outline = outline_of(
+/// The outline of a job without a fault.
+pub(crate) fn sound_outline(
+    alloc: Global,
+    kinematics: &str,
+    families: &str,
+    jobs: &str,
+    words: &[&str],
+) -> Option<Outline> {
+    outline_of(alloc, kinematics, families, jobs, words)?.ok()
+}
+
+fn has_fault(outcome: &Result<Outline, PlanError>, file: File, line: u32, kind: InputKind) -> bool {
+    match outcome {
+        Err(PlanError::Input(fault)) => {
+            fault.file == file && fault.line == line && fault.kind == kind
+        }
+        _ => false,
+    }
+}
+
+fn is_refused(alloc: Global, refused: &Refused) -> bool {
+    match outline_of(
         alloc,
         refused.kinematics,
         refused.families,
         refused.jobs,
         refused.words,
-    )?;
-    match outline {
-        Err(PlanError::Input(fault)) => Ok(Some(fault)),
-        _ => Ok(None),
+    ) {
+        Some(outcome) => has_fault(&outcome, refused.file, refused.line, refused.kind),
+        None => false,
     }
 }
 
 #[test]
-fn names_the_first_fault(rt: HostRuntime) -> Result<(), Fail> {
+fn names_the_first_fault(rt: HostRuntime) {
     for refused in &REFUSED {
-        let want = InputFault {
-            file: refused.file,
-            line: refused.line,
-            kind: refused.kind,
-        };
-        assert_eq!(rt; fault_of(rt.alloc(), refused)?, Some(want));
+        assert!(rt; is_refused(rt.alloc(), refused));
     }
-    Ok(())
 }
 
-// The numbers of the file of jobs: d is 7, and m2 is 3.
-#[test]
-fn reads_the_tadpole(rt: HostRuntime) -> Result<(), Fail> {
-    let outline = outline_of(rt.alloc(), KINEMATICS, FAMILIES, JOB, &[])??;
-    assert_eq!(rt; outline.list_count(), 0);
-    assert!(rt; outline.family_count() == 1);
-    assert_eq!(rt; outline.family_name(0), "tad");
-    assert_eq!(rt; outline.families()[0].width, 1);
-    assert_eq!(rt; outline.kinematics().invariants.len(), 1);
+/// A whole number that stands on line 11 of the file of jobs.
+fn whole(numerator: u128) -> Setting {
+    Setting {
+        file: File::Jobs,
+        line: 11,
+        ratio: Ratio {
+            is_negative: false,
+            numerator,
+            divisor: None,
+        },
+    }
+}
+
+fn has_family(outline: &Outline, number: u32, name: &str, width: u32) -> bool {
+    number < outline.family_count()
+        && outline.family_name(number) == name
+        && outline.families()[number as usize].width == width
+}
+
+// d is 7, and m2 is 3.
+fn has_tadpole_point(outline: &Outline) -> bool {
     let point = outline.numeric_point();
-    assert_eq!(rt; point.prime.value(), 101);
-    let settings = point.settings.as_slice();
-    assert_eq!(rt; settings.len(), 2);
-    assert_eq!(rt; (settings[0].line, settings[0].ratio.numerator), (11, 7));
-    assert_eq!(rt; (settings[1].line, settings[1].ratio.numerator), (11, 3));
-    Ok(())
+    point.prime.value() == 101 && point.settings.as_slice() == [whole(7), whole(3)].as_slice()
+}
+
+fn is_tadpole(outline: &Outline) -> bool {
+    outline.list_count() == 0
+        && outline.family_count() == 1
+        && has_family(outline, 0, "tad", 1)
+        && outline.kinematics().invariants.len() == 1
+        && has_tadpole_point(outline)
+}
+
+fn tadpole(alloc: Global) -> Option<Outline> {
+    sound_outline(alloc, KINEMATICS, FAMILIES, JOB, &[])
+}
+
+#[test]
+fn reads_the_tadpole(rt: HostRuntime) {
+    match tadpole(rt.alloc()) {
+        Some(outline) => assert!(rt; is_tadpole(&outline)),
+        None => assert!(rt; false),
+    }
 }
 
 /// The invariant s is 1.
@@ -272,14 +334,8 @@ pub(crate) const TWO_FAMILIES: &'static str =
 pub(crate) const TWO_LISTS: &'static str =
     "jobs:\n  - reduce_sectors:\n      reduce:\n        - {topologies: [sun], sectors: [7], r: 3, s: 1}\n        - {topologies: [bub], sectors: [3], r: 2, s: 0}\n      select_integrals:\n        select_mandatory_list:\n          - [sun, first]\n          - [bub, \"the second\"]\n      numeric_point: {prime: 101, m2: 1/2}\n";
 
-fn two_families(alloc: Global) -> Result<Outline, Fail> {
-    Ok(outline_of(alloc, ONE_MOMENTUM, TWO_FAMILIES, TWO_LISTS, &["d=-3"])??)
-}
-
-fn has_family(outline: &Outline, number: u32, name: &str, width: u32) -> bool {
-    number < outline.family_count()
-        && outline.family_name(number) == name
-        && outline.families()[number as usize].width == width
+fn two_families(alloc: Global) -> Option<Outline> {
+    sound_outline(alloc, ONE_MOMENTUM, TWO_FAMILIES, TWO_LISTS, &["d=-3"])
 }
 
 fn has_list(outline: &Outline, number: u32, name: &str) -> bool {
@@ -287,33 +343,43 @@ fn has_list(outline: &Outline, number: u32, name: &str) -> bool {
 }
 
 // One loop and one external momentum give 2 denominators, and two loops give 5.
+fn names_two_families(outline: &Outline) -> bool {
+    outline.family_count() == 2
+        && has_family(outline, 0, "bub", 2)
+        && has_family(outline, 1, "sun", 5)
+        && outline.list_count() == 2
+        && has_list(outline, 0, "first")
+        && has_list(outline, 1, "the second")
+}
+
 #[test]
-fn reads_two_families(rt: HostRuntime) -> Result<(), Fail> {
-    let outline = two_families(rt.alloc())?;
-    assert_eq!(rt; outline.family_count(), 2);
-    assert!(rt; has_family(&outline, 0, "bub", 2));
-    assert!(rt; has_family(&outline, 1, "sun", 5));
-    assert_eq!(rt; outline.list_count(), 2);
-    assert!(rt; has_list(&outline, 0, "first"));
-    assert!(rt; has_list(&outline, 1, "the second"));
-    Ok(())
+fn reads_two_families(rt: HostRuntime) {
+    match two_families(rt.alloc()) {
+        Some(outline) => assert!(rt; names_two_families(&outline)),
+        None => assert!(rt; false),
+    }
 }
 
 // Sector 7 of sun comes first, and then sector 3 of bub.
+fn has_two_specs(outline: &Outline) -> bool {
+    match outline.reduce.as_slice() {
+        [first, second] => {
+            first.family == 1 && first.sector == 7 && second.family == 0 && second.sector == 3
+        }
+        _ => false,
+    }
+}
+
 #[test]
-fn reads_specs(rt: HostRuntime) -> Result<(), Fail> {
-    let Outline { reduce, .. } = two_families(rt.alloc())?;
-    let specs = reduce.as_slice();
-    assert_eq!(rt; specs.len(), 2);
-    assert_eq!(rt; (specs[0].family, specs[0].sector), (1, 7));
-    assert_eq!(rt; (specs[1].family, specs[1].sector), (0, 3));
-    Ok(())
+fn reads_specs(rt: HostRuntime) {
+    match two_families(rt.alloc()) {
+        Some(outline) => assert!(rt; has_two_specs(&outline)),
+        None => assert!(rt; false),
+    }
 }
 
 // The parameters are d, which a word gives, and m2.
-#[test]
-fn words_go_before_the_file(rt: HostRuntime) -> Result<(), Fail> {
-    let Outline { point, .. } = two_families(rt.alloc())?;
+fn has_two_settings(outline: &Outline) -> bool {
     let dimension = Setting {
         file: File::Words,
         line: 2,
@@ -332,6 +398,13 @@ fn words_go_before_the_file(rt: HostRuntime) -> Result<(), Fail> {
             divisor: Some(Divisor { at: 1, number: 2 }),
         },
     };
-    assert_eq!(rt; point.settings.as_slice(), [dimension, mass].as_slice());
-    Ok(())
+    outline.point.settings.as_slice() == [dimension, mass].as_slice()
+}
+
+#[test]
+fn words_go_before_the_file(rt: HostRuntime) {
+    match two_families(rt.alloc()) {
+        Some(outline) => assert!(rt; has_two_settings(&outline)),
+        None => assert!(rt; false),
+    }
 }

@@ -29,6 +29,8 @@ mod refusals;
 #[cfg(test)]
 mod symmetry_tests;
 #[cfg(test)]
+mod test_calls;
+#[cfg(test)]
 mod test_jobs;
 #[cfg(test)]
 mod tests;

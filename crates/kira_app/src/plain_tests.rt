@@ -3,10 +3,10 @@
 ghost use Rattle.std.specs.Prelude.{◌≡◌, ◌<◌};
 
 use crate::reduction::reduced;
+use crate::test_calls::held;
 use crate::test_jobs::{
     BOX, BUBBLE, Files, LISTED_TRIANGLE, TADPOLE, TRIANGLE, TWO_TADPOLES, VACUUM,
 };
-use crate::tests::held;
 use crate::{Status, sources};
 use job_plan::Plan;
 use reduction_core::{Table, reduce_plain};
@@ -54,15 +54,23 @@ const JOBS: &[Files] = &[
     VACUUM,
 ];
 
+// Whether the board gives just the rows of this table, which are some.
+fn is_by_the_board(alloc: Global, plan: &Plan, plain: &Table) -> Result<bool, Fail> {
+    let table = by_the_board::<Brand>(alloc, plan, Blank::new(1))?;
+    Ok(!plain.rows().is_empty() && are_same(table.rows(), plain.rows()))
+}
+
+fn both_agree(alloc: Global, files: &Files) -> Result<bool, Fail> {
+    let plan = plan_of(alloc, files)?;
+    let plain = reduce_plain(alloc, plan.equations()?, plan.modulus(), plan.order())?;
+    is_by_the_board(alloc, &plan, &plain)
+}
+
 #[test]
 fn the_board_gives_the_table_of_one_list(rt: HostRuntime) -> Result<(), Fail> {
-    let alloc = rt.alloc();
     for files in JOBS {
-        let plan = plan_of(alloc, files)?;
-        let plain = reduce_plain(alloc, plan.equations()?, plan.modulus(), plan.order())?;
-        let table = by_the_board::<Brand>(alloc, &plan, Blank::new(1))?;
-        assert!(rt; !plain.rows().is_empty());
-        assert!(rt; are_same(table.rows(), plain.rows()));
+        let is_right = both_agree(rt.alloc(), files)?;
+        assert!(rt; is_right, "{}", files.jobs);
     }
     Ok(())
 }

@@ -1,26 +1,16 @@
 //! Jobs whose families name symmetries: tables and refusals worked out by hand, and the sunrise's table by
 //! examples/reference.py.
 
-use crate::test_jobs::{BOX, BUBBLE, Files, NO_LIST};
-use crate::tests::{call, prints, refuses};
+use crate::test_calls::{Printed, Refused, all_print, all_refuse};
+use crate::test_jobs::{
+    BOX_JOBS, BOX_KINEMATICS, BOX_LIST, BUBBLE_JOBS, BUBBLE_KINEMATICS, Files, NO_LIST,
+};
 use std::test::Fail;
 
-const BUBBLE_TABLE: &str = "\
-bub[1,1] = 1*bub[1,1]
-bub[1,2] = 80*bub[1,1]
-bub[2,1] = 80*bub[1,1]
-masters 1
-bub[1,1]
-";
-
-const NO_SYMMETRY: &str = "\
-kira: config/integralfamilies.yaml:10: not a symmetry of the denominators
-";
-
-#[test]
-fn the_bubble_with_its_lines_exchanged(rt: HostRuntime) -> Result<(), Fail> {
-    let files = Files {
-        families: "\
+// The bubble with its lines exchanged.
+const EXCHANGED_BUBBLE: Files = Files {
+    jobs: BUBBLE_JOBS,
+    families: "\
 integralfamilies:
   - name: \"bub\"
     loop_momenta: [k1]
@@ -32,17 +22,14 @@ integralfamilies:
     symmetries:
       - {k1: \"-k1-p1\"}
 ",
-        ..BUBBLE
-    };
-    assert!(rt; prints(&call(rt.alloc(), &files, "jobs.yaml")?, BUBBLE_TABLE));
-    Ok(())
-}
+    kinematics: BUBBLE_KINEMATICS,
+    list: NO_LIST,
+};
 
-// 100 is -1 modulo 101, and isn't modulo 103.
-#[test]
-fn a_map_may_be_a_symmetry_only_modulo_the_prime(rt: HostRuntime) -> Result<(), Fail> {
-    let files = Files {
-        families: "\
+// A map that is a symmetry only modulo the prime: 100 is -1 modulo 101, and isn't modulo 103.
+const BUBBLE_MODULO_101: Files = Files {
+    jobs: BUBBLE_JOBS,
+    families: "\
 integralfamilies:
   - name: \"bub\"
     loop_momenta: [k1]
@@ -54,35 +41,17 @@ integralfamilies:
     symmetries:
       - {k1: \"100*k1+100*p1\"}
 ",
-        ..BUBBLE
-    };
-    let alloc = rt.alloc();
-    assert!(rt; prints(&call(alloc, &files, "jobs.yaml")?, BUBBLE_TABLE));
-    assert!(rt; refuses(&call(alloc, &files, "jobs.yaml prime=103")?, 3, NO_SYMMETRY));
-    Ok(())
-}
+    kinematics: BUBBLE_KINEMATICS,
+    list: NO_LIST,
+};
 
-// The box by k1 -> -k1 - p1 - p2: (k1 + p1)^2 becomes (k1 + p2)^2, which is no denominator.
-#[test]
-fn a_map_of_the_box_is_no_symmetry(rt: HostRuntime) -> Result<(), Fail> {
-    let files = Files {
-        families: "\
-integralfamilies:
-  - name: box
-    loop_momenta: [k1]
-    propagators:
-      - [k1, 0]
-      - [k1+p1, 0]
-      - [k1+p1+p2, 0]
-      - [k1+p1+p2+p3, 0]
-    symmetries:
-      - {k1: -k1-p1-p2}
-",
-        ..BOX
-    };
-    assert!(rt; refuses(&call(rt.alloc(), &files, "jobs.yaml")?, 3, NO_SYMMETRY));
-    Ok(())
-}
+const BUBBLE_TABLE: &str = "\
+bub[1,1] = 1*bub[1,1]
+bub[1,2] = 80*bub[1,1]
+bub[2,1] = 80*bub[1,1]
+masters 1
+bub[1,1]
+";
 
 // The sunrise of one squared mass, whose first and third propagators are exchanged.
 const SUNRISE: Files = Files {
@@ -112,10 +81,8 @@ kinematics:
     list: NO_LIST,
 };
 
-// The products of the first two tadpoles and of the last two are equal.
-#[test]
-fn a_symmetry_of_the_sunrise_leaves_fewer_masters(rt: HostRuntime) -> Result<(), Fail> {
-    let table = "\
+// The symmetry leaves fewer masters: the products of the first two tadpoles and of the last two are equal.
+const SUNRISE_TABLE: &str = "\
 sun[1,1,0,0,0] = 1*sun[1,1,0,0,0]
 sun[1,2,0,0,0] = 51*sun[1,1,0,0,0]
 sun[2,1,0,0,0] = 51*sun[1,1,0,0,0]
@@ -131,6 +98,47 @@ sun[1,1,0,0,0]
 sun[1,0,1,0,0]
 sun[1,1,1,0,0]
 ";
-    assert!(rt; prints(&call(rt.alloc(), &SUNRISE, "jobs.yaml")?, table));
-    Ok(())
+
+const TABLES: &[Printed] = &[
+    (&EXCHANGED_BUBBLE, "jobs.yaml", BUBBLE_TABLE),
+    (&BUBBLE_MODULO_101, "jobs.yaml", BUBBLE_TABLE),
+    (&SUNRISE, "jobs.yaml", SUNRISE_TABLE),
+];
+
+#[test]
+fn tables_of_jobs_with_symmetries(rt: HostRuntime) -> Result<(), Fail> {
+    all_print(&rt, rt.alloc(), TABLES)
+}
+
+// The box by k1 -> -k1 - p1 - p2: (k1 + p1)^2 becomes (k1 + p2)^2, which is no denominator.
+const TURNED_BOX: Files = Files {
+    jobs: BOX_JOBS,
+    families: "\
+integralfamilies:
+  - name: box
+    loop_momenta: [k1]
+    propagators:
+      - [k1, 0]
+      - [k1+p1, 0]
+      - [k1+p1+p2, 0]
+      - [k1+p1+p2+p3, 0]
+    symmetries:
+      - {k1: -k1-p1-p2}
+",
+    kinematics: BOX_KINEMATICS,
+    list: BOX_LIST,
+};
+
+const NO_SYMMETRY: &str = "\
+kira: config/integralfamilies.yaml:10: not a symmetry of the denominators
+";
+
+const NO_SYMMETRIES: &[Refused] = &[
+    (&BUBBLE_MODULO_101, "jobs.yaml prime=103", 3, NO_SYMMETRY),
+    (&TURNED_BOX, "jobs.yaml", 3, NO_SYMMETRY),
+];
+
+#[test]
+fn maps_that_are_no_symmetries(rt: HostRuntime) -> Result<(), Fail> {
+    all_refuse(&rt, rt.alloc(), NO_SYMMETRIES)
 }

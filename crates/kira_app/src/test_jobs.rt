@@ -13,7 +13,7 @@ pub(crate) struct Files {
 pub(crate) const NO_LIST: (&str, &str) = ("", "");
 
 // One squared mass, and no external momentum.
-const ONE_MASS: &str = "\
+pub(crate) const ONE_MASS: &str = "\
 kinematics :
   incoming_momenta: []
   outgoing_momenta: []
@@ -22,8 +22,7 @@ kinematics :
   scalarproduct_rules: []
 ";
 
-pub(crate) const TADPOLE: Files = Files {
-    jobs: "\
+pub(crate) const TADPOLE_JOBS: &str = "\
 jobs:
   - reduce_sectors:
       reduce:
@@ -35,15 +34,20 @@ jobs:
       run_triangular: true
       run_back_substitution: true
       numeric_point: {prime: 101, d: 7, m2: 3}
-",
-    families: "\
+";
+
+pub(crate) const TADPOLE_FAMILIES: &str = "\
 integralfamilies:
   - name: \"tad\"
     loop_momenta: [k1]
     top_level_sectors: [1]
     propagators:
       - [\"k1\", \"m2\"]
-",
+";
+
+pub(crate) const TADPOLE: Files = Files {
+    jobs: TADPOLE_JOBS,
+    families: TADPOLE_FAMILIES,
     kinematics: ONE_MASS,
     list: NO_LIST,
 };
@@ -69,8 +73,7 @@ integralfamilies:
     list: NO_LIST,
 };
 
-pub(crate) const BUBBLE: Files = Files {
-    jobs: "\
+pub(crate) const BUBBLE_JOBS: &str = "\
 jobs:
   - reduce_sectors:
       reduce:
@@ -79,8 +82,9 @@ jobs:
         select_mandatory_recursively:
           - {topologies: [bub], sectors: [3], r: 3, s: 0}
       numeric_point: {prime: 101, d: 7, s: 5}
-",
-    families: "\
+";
+
+pub(crate) const BUBBLE_FAMILIES: &str = "\
 integralfamilies:
   - name: \"bub\"
     loop_momenta: [k1]
@@ -89,8 +93,9 @@ integralfamilies:
       - [\"k1\", 0]
       - [\"k1+p1\", 0]
     zero_sectors: [1, 2]
-",
-    kinematics: "\
+";
+
+pub(crate) const BUBBLE_KINEMATICS: &str = "\
 kinematics:
   incoming_momenta: [p1]
   outgoing_momenta: [p2]
@@ -99,11 +104,16 @@ kinematics:
     - [s, 2]
   scalarproduct_rules:
     - [[p1,p1], s]
-",
+";
+
+pub(crate) const BUBBLE: Files = Files {
+    jobs: BUBBLE_JOBS,
+    families: BUBBLE_FAMILIES,
+    kinematics: BUBBLE_KINEMATICS,
     list: NO_LIST,
 };
 
-const TRIANGLE_FAMILY: &str = "\
+pub(crate) const TRIANGLE_FAMILY: &str = "\
 integralfamilies:
   - name: \"tri\"
     loop_momenta: [k1]
@@ -115,7 +125,7 @@ integralfamilies:
     zero_sectors: [3, 5]
 ";
 
-const TWO_MASSLESS_LEGS: &str = "\
+pub(crate) const TWO_MASSLESS_LEGS: &str = "\
 kinematics:
   incoming_momenta: [p1, p2, p3]
   momentum_conservation: [p3, -p1-p2]
@@ -143,9 +153,7 @@ jobs:
     list: NO_LIST,
 };
 
-/// The triangle, of which a list selects.
-pub(crate) const LISTED_TRIANGLE: Files = Files {
-    jobs: "\
+pub(crate) const LISTED_TRIANGLE_JOBS: &str = "\
 jobs:
   - reduce_sectors:
       reduce:
@@ -154,14 +162,17 @@ jobs:
         select_mandatory_list:
           - [tri, wanted]
       numeric_point: {prime: 101, d: 7, s: 5}
-",
+";
+
+/// The triangle, of which a list selects.
+pub(crate) const LISTED_TRIANGLE: Files = Files {
+    jobs: LISTED_TRIANGLE_JOBS,
     families: TRIANGLE_FAMILY,
     kinematics: TWO_MASSLESS_LEGS,
     list: ("wanted", "tri[1,1,0]\n"),
 };
 
-pub(crate) const BOX: Files = Files {
-    jobs: "\
+pub(crate) const BOX_JOBS: &str = "\
 jobs:
   - reduce_sectors:
       reduce:
@@ -170,8 +181,9 @@ jobs:
         select_mandatory_list:
           - [box, boxlist]
       numeric_point: {prime: 101, d: 7, s: 5, t: 11}
-",
-    families: "\
+";
+
+pub(crate) const BOX_FAMILIES: &str = "\
 integralfamilies:
   - name: \"box\"
     loop_momenta: [k1]
@@ -182,8 +194,9 @@ integralfamilies:
       - [\"k1+p1+p2\", 0]
       - [\"k1+p1+p2+p3\", 0]
     zero_sectors: [3, 6, 12, 9]
-",
-    kinematics: "\
+";
+
+pub(crate) const BOX_KINEMATICS: &str = "\
 kinematics:
   incoming_momenta: [p1, p2, p3, p4]
   momentum_conservation: [p4, -p1-p2-p3]
@@ -197,11 +210,18 @@ kinematics:
     - [[p4,p4], 0]
     - [[p1+p2,p1+p2], s]
     - [[p2+p3,p2+p3], t]
-",
-    list: (
-        "boxlist",
-        "box[1,0,1,0]\nbox[0,1,0,1]\nbox[1,1,1,0]\nbox[1,1,1,1]\nbox[1,1,2,1]\n",
-    ),
+";
+
+pub(crate) const BOX_LIST: (&str, &str) = (
+    "boxlist",
+    "box[1,0,1,0]\nbox[0,1,0,1]\nbox[1,1,1,0]\nbox[1,1,1,1]\nbox[1,1,2,1]\n",
+);
+
+pub(crate) const BOX: Files = Files {
+    jobs: BOX_JOBS,
+    families: BOX_FAMILIES,
+    kinematics: BOX_KINEMATICS,
+    list: BOX_LIST,
 };
 
 pub(crate) const VACUUM: Files = Files {
