@@ -83,8 +83,14 @@ fn trees_at(
     families: &Tree,
     point: &NumericPoint,
 ) -> Option<Result<AtPoint, PlanError>> {
-    let kinematics = kinematics_schema::read(alloc, kinematics).ok()?;
-    let families = family_schema::read(alloc, &kinematics, families).ok()?;
+    let kinematics = match kinematics_schema::read(alloc, kinematics) {
+        Ok(kinematics) => kinematics,
+        Err(_) => return None,
+    };
+    let families = match family_schema::read(alloc, &kinematics, families) {
+        Ok(families) => families,
+        Err(_) => return None,
+    };
     if point.settings.len() != parameter_count(&kinematics) {
         return None;
     }
@@ -221,7 +227,7 @@ fn replaces_the_symbol_by_one(rt: HostRuntime) {
 }
 
 // The fault with all its numbers; a vector has its first two entries and its length.
-#[derive(Clone, Copy, Debug, PartialEq, Eq, Drop)]
+#[derive(Clone, Copy, PartialEq, Eq, Drop)]
 enum Cause {
     None,
     Divisor(File, u32, u32),
