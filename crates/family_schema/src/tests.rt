@@ -1,12 +1,13 @@
 //! Small files of families with what they say and with their faults, worked out by hand.
 
-use crate::{Family, Momenta, read};
+use crate::{Family, Momenta, Propagator, Symmetry, read};
 use input_schema::{File, InputFault, InputKind, SchemaError};
 use kinematics_schema::Kinematics;
 use sqlite_items::Items;
 use std::alloc::Global;
 use std::test::Fail;
 
+#[derive(Clone, Copy)]
 struct Refused {
     text: &'static str,
     line: u32,
@@ -287,73 +288,99 @@ fn fault_of(alloc: Global, text: &str) -> Option<InputFault> {
     }
 }
 
-#[test]
-fn names_the_first_fault(rt: HostRuntime) {
-    for refused in &REFUSED {
+// The place of the first file that isn't refused so, and the count of files where there is none.
+fn refused_until(alloc: Global) -> usize {
+    for place in 0..REFUSED.len() {
+        let refused = REFUSED[place];
         let want = InputFault {
             file: File::Families,
             line: refused.line,
             kind: refused.kind,
         };
-        assert_eq!(rt; fault_of(rt.alloc(), refused.text), Some(want));
+        if fault_of(alloc, refused.text) != Some(want) {
+            return place;
+        }
     }
+    REFUSED.len()
+}
+
+#[test]
+fn names_the_first_fault(rt: HostRuntime) {
+    assert_eq!(rt; refused_until(rt.alloc()), 50);
 }
 
 const TWO: &'static str =
     "integralfamilies:\n  - name: bub\n    loop_momenta: [k1]\n    propagators:\n      - [k1, m2]\n      - bilinear: [[k1+p2, 2*p2], 0]\n    zero_sectors: [1, 2]\n    symmetries:\n      - {k1: -k1-p2}\n      - {}\n  - {name: vac, loop_momenta: [k1, k2], top_level_sectors: [31, 7], propagators: [[k1, 0], [k2, 0], [k1-k2, 0], [k1+p1, 0], [k2+p1, 0]], symmetries: [{k2: k1}]}\n";
 
-// p2 is p1. One loop has 2 denominators, so all of them are sector 3; two loops have 5.
+// Whether the propagator in this line is the square of a momentum with these coefficients.
+fn is_square(found: &Propagator, line: u32, coefficients: &[i16]) -> bool {
+    match &found.momenta {
+        Momenta::Square(momentum) => {
+            found.line == line && momentum.coefficients() == coefficients
+        }
+        Momenta::Product(_, _) => false,
+    }
+}
+
+// Whether the propagator in this line is the product of momenta with these coefficients.
+fn is_product(found: &Propagator, line: u32, left: &[i16], right: &[i16]) -> bool {
+    match &found.momenta {
+        Momenta::Square(_) => false,
+        Momenta::Product(one, other) => {
+            found.line == line && one.coefficients() == left && other.coefficients() == right
+        }
+    }
+}
+
+// Whether the symmetry in this line sends the loop momenta to momenta with these coefficients.
+fn has_images(found: &Symmetry, line: u32, images: &[&[i16]]) -> bool {
+    let momenta = found.images.as_slice();
+    if found.line != line || momenta.len() != images.len() {
+        return false;
+    }
+    for k in 0..images.len() {
+        if momenta[k].coefficients() != images[k] {
+            return false;
+        }
+    }
+    true
+}
+
+// p2 is p1. One loop has 2 denominators, so all of them are sector 3.
+fn is_bubble(found: &Family) -> bool {
+    let propagators = found.propagators.as_slice();
+    let symmetries = found.symmetries.as_slice();
+    found.name.as_str() == "bub"
+        && found.loops.len() == 1
+        && found.width == 2
+        && found.top_sectors.as_slice() == [3].as_slice()
+        && found.zero_sectors.as_slice() == [1, 2].as_slice()
+        && propagators.len() == 2
+        && is_square(&propagators[0], 5, &[1, 0])
+        && is_product(&propagators[1], 6, &[1, 1], &[0, 2])
+        && symmetries.len() == 2
+        && has_images(&symmetries[0], 9, &[&[-1, -1]])
+        && has_images(&symmetries[1], 10, &[&[1, 0]])
+}
+
+// Two loops have 5 denominators.
+fn is_vacuum(found: &Family) -> bool {
+    let symmetries = found.symmetries.as_slice();
+    found.name.as_str() == "vac"
+        && found.loops.len() == 2
+        && found.width == 5
+        && found.top_sectors.as_slice() == [31, 7].as_slice()
+        && found.zero_sectors.is_empty()
+        && symmetries.len() == 1
+        && has_images(&symmetries[0], 11, &[&[1, 0, 0], &[1, 0, 0]])
+}
+
 #[test]
 fn reads_two_families(rt: HostRuntime) -> Result<(), Fail> {
     let families = families_of(rt.alloc(), TWO).ok_or("no tree")??;
     let families = families.as_slice();
     assert_eq!(rt; families.len(), 2);
-    let bub = &families[0];
-    assert_eq!(rt; bub.name.as_str(), "bub");
-    assert_eq!(rt; bub.loops.len(), 1);
-    assert_eq!(rt; bub.width, 2);
-    assert_eq!(rt; bub.top_sectors.as_slice(), [3].as_slice());
-    assert_eq!(rt; bub.zero_sectors.as_slice(), [1, 2].as_slice());
-    let propagators = bub.propagators.as_slice();
-    assert_eq!(rt; propagators.len(), 2);
-    assert_eq!(rt; propagators[0].line, 5);
-    match &propagators[0].momenta {
-        Momenta::Square(momentum) => assert_eq!(rt; momentum.coefficients(), [1, 0].as_slice()),
-        Momenta::Product(_, _) => assert!(rt; false),
-    }
-    match &propagators[1].momenta {
-        Momenta::Square(_) => assert!(rt; false),
-        Momenta::Product(left, right) => {
-            assert_eq!(rt; left.coefficients(), [1, 1].as_slice());
-            assert_eq!(rt; right.coefficients(), [0, 2].as_slice());
-        }
-    }
-    let symmetries = bub.symmetries.as_slice();
-    assert_eq!(rt; symmetries.len(), 2);
-    assert_eq!(rt; symmetries[0].line, 9);
-    assert_eq!(rt; symmetries[0].images.len(), 1);
-    assert_eq!(rt;
-        symmetries[0].images.as_slice()[0].coefficients(),
-        [-1, -1].as_slice()
-    );
-    assert_eq!(rt; symmetries[1].images.len(), 1);
-    assert_eq!(rt;
-        symmetries[1].images.as_slice()[0].coefficients(),
-        [1, 0].as_slice()
-    );
-    let vac = &families[1];
-    assert_eq!(rt; vac.width, 5);
-    assert_eq!(rt; vac.top_sectors.as_slice(), [31, 7].as_slice());
-    let symmetries = vac.symmetries.as_slice();
-    assert_eq!(rt; symmetries.len(), 1);
-    assert_eq!(rt; symmetries[0].images.len(), 2);
-    assert_eq!(rt;
-        symmetries[0].images.as_slice()[0].coefficients(),
-        [1, 0, 0].as_slice()
-    );
-    assert_eq!(rt;
-        symmetries[0].images.as_slice()[1].coefficients(),
-        [1, 0, 0].as_slice()
-    );
+    assert!(rt; is_bubble(&families[0]));
+    assert!(rt; is_vacuum(&families[1]));
     Ok(())
 }
