@@ -8,6 +8,3 @@ mod substitution;
 mod sums;
 
 pub use substitution::{Substituted, substitute};
-
-#[cfg(test)]
-mod tests;

@@ -11,6 +11,3 @@ mod request;
 pub use laws::{dashes_end_options, plain_words_stand};
 pub use reading::read;
 pub use request::{JobRequest, PlacedWord, Request, SaveRequest, WordsFault};
-
-#[cfg(test)]
-mod tests;

@@ -9,8 +9,6 @@ mod reader;
 mod scope;
 mod sectors;
 mod symmetries;
-#[cfg(test)]
-mod tests;
 
 pub use content::{Family, Momenta, Propagator, Symmetry};
 pub use laws::{reading_is_single, reading_never_says_missing};

@@ -143,6 +143,3 @@ impl Modulus {
         Ok(if is_negative { p - last } else { last })
     }
 }
-
-#[cfg(test)]
-mod tests;

@@ -9,6 +9,3 @@ mod terms;
 
 pub use equations::equation;
 pub use shifts::are_seed_indices;
-
-#[cfg(test)]
-mod tests;

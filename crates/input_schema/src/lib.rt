@@ -10,8 +10,6 @@ mod momenta;
 mod names;
 mod nodes;
 mod numbers;
-#[cfg(test)]
-mod tests;
 
 pub use expressions::{momentum, value};
 pub use faults::{File, InputFault, InputKind, SchemaError, fault};

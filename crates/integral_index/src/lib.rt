@@ -60,6 +60,3 @@ impl Unit {
             .then(self.sector.cmp(&other.sector))
     }
 }
-
-#[cfg(test)]
-mod tests;

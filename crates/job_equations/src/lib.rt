@@ -7,6 +7,3 @@ mod seeded;
 
 pub use bounds::{EquationShape, term_bound};
 pub use seeded::equations;
-
-#[cfg(test)]
-mod tests;

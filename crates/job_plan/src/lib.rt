@@ -3,20 +3,14 @@
 #![tactic(auto)]
 
 mod gathering;
-#[cfg(test)]
-mod integral_tests;
 mod laws;
 mod list_files;
 mod outlines;
 mod parts;
-#[cfg(test)]
-mod plan_tests;
 mod planner;
 mod plans;
 mod reader;
 mod terms;
-#[cfg(test)]
-mod tests;
 
 pub use input_schema::{File, InputFault, InputKind};
 pub use job_point::{Excess, PlanError, Singular};

@@ -13,6 +13,3 @@ mod values;
 pub use faults::{Excess, PlanError, Singular};
 pub use laws::{points_agree, points_are_single, points_never_say_missing};
 pub use points::{AtPoint, at_point};
-
-#[cfg(test)]
-mod tests;

@@ -18,6 +18,3 @@ pub use overrides::{Override, override_point, read_override};
 pub use points::{NumericPoint, PointInput, Setting};
 pub use ratios::{Divisor, Ratio};
 pub use selections::{ListFile, Selection};
-
-#[cfg(test)]
-mod tests;

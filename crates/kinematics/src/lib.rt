@@ -31,8 +31,3 @@ pub use rule_rows::residue;
 pub use rules::{PointFault, Rule, point, rules_fit};
 pub use tokens::{is_digit, is_name_byte};
 pub use value_reader::read_value;
-
-#[cfg(test)]
-mod point_tests;
-#[cfg(test)]
-mod tests;

@@ -9,8 +9,6 @@ mod laws;
 mod momenta;
 mod reader;
 mod rules;
-#[cfg(test)]
-mod tests;
 
 pub use content::{Conserved, Kinematics, Rule};
 pub use laws::{reading_is_single, reading_never_says_missing};

@@ -21,16 +21,3 @@ pub use refusal::Refusal;
 pub use run::run_alone;
 pub use status::{Status, exit_code};
 pub use top::kira_alone;
-
-#[cfg(test)]
-mod plain_tests;
-#[cfg(test)]
-mod refusals;
-#[cfg(test)]
-mod symmetry_tests;
-#[cfg(test)]
-mod test_calls;
-#[cfg(test)]
-mod test_jobs;
-#[cfg(test)]
-mod tests;

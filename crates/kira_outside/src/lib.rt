@@ -11,8 +11,6 @@ mod host_sink;
 mod memory_files;
 mod memory_sink;
 mod sink;
-#[cfg(test)]
-mod tests;
 mod text8;
 
 pub use fault::{Failed, LoadFault};

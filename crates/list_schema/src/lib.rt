@@ -5,8 +5,6 @@ mod indices;
 mod laws;
 mod lists;
 mod names;
-#[cfg(test)]
-mod tests;
 
 pub use laws::{pieces_are_cut, reading_never_says_missing};
 pub use lists::read_list;

@@ -9,6 +9,3 @@ mod vectors;
 pub use elimination::{Eliminated, EliminationFault, Solved, eliminate};
 pub use systems::{SystemFault, dot, solve};
 pub use vectors::Vector;
-
-#[cfg(test)]
-mod tests;

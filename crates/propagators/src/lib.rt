@@ -18,6 +18,3 @@ pub use denominators::{Denominator, denominators_fit, form, image};
 pub use faults::BasisFault;
 pub use forms::{Form, product};
 pub use frames::denominator_forms;
-
-#[cfg(test)]
-mod tests;

@@ -28,10 +28,3 @@ pub use rows::Rows;
 pub use sector_forward::ForwardFault;
 pub use table::Table;
 pub use task::{Task, Work};
-
-#[cfg(test)]
-mod board_tests;
-#[cfg(test)]
-mod task_tests;
-#[cfg(test)]
-mod tests;

@@ -12,6 +12,3 @@ pub use elimination::{Eliminated, eliminate};
 pub use fault::ForwardFault;
 pub use reduction::reduced_rows;
 pub use steps::place_of_pivot;
-
-#[cfg(test)]
-mod tests;

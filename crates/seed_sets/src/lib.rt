@@ -88,6 +88,3 @@ pub fn ascending(found: Vec<Integral>, order: Order, most: u64) -> Result<Vec<In
     settle(&mut kept, Limit { order, most })?;
     Ok(kept)
 }
-
-#[cfg(test)]
-mod tests;

@@ -236,6 +236,3 @@ impl Row {
         self.order == other.order && terms::equal(self.order, &self.terms, &other.terms)
     }
 }
-
-#[cfg(test)]
-mod tests;

@@ -12,6 +12,3 @@ pub use checking::check;
 pub use equations::equation;
 pub use faults::MapFault;
 pub use symmetries::Symmetry;
-
-#[cfg(test)]
-mod tests;

@@ -10,6 +10,3 @@ mod whole;
 pub use laws::{names_are_plain, text_tells_normal_forms};
 pub use sending::{WriteFault, send, write_all};
 pub use whole::{masters, text};
-
-#[cfg(test)]
-mod tests;

@@ -8,8 +8,6 @@ mod keys;
 mod laws;
 mod line;
 mod reader;
-#[cfg(test)]
-mod tests;
 mod text;
 mod token;
 mod tree;

@@ -1,8 +1,0 @@
--- The rows so far are of the unit.
-use Rattle.std.proofs.Common.{All}
-use Rattle.integral_index.specs.declared.Order.TheVariants.{Standard}
-use Rattle.sector_forward.specs.Elimination.{IsTaken}
-use Rattle.reduction_core.proofs.task_tests.taken_rows.Given as goal
-
-abbrev pub invariant-loop-terms : goal.invariant-loop-terms
-invariant-loop-terms l = All (IsTaken l.modulus Standard l.unit) l.made.items

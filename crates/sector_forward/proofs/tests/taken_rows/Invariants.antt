@@ -1,7 +1,0 @@
-use Rattle.std.proofs.Common.{All}
-use Rattle.integral_index.specs.declared.Order.TheVariants.{Standard}
-use Rattle.sector_forward.specs.Elimination.{IsTaken}
-use Rattle.sector_forward.proofs.tests.taken_rows.Given as goal
-
-abbrev pub invariant-loop-terms : goal.invariant-loop-terms
-invariant-loop-terms l = All (IsTaken l.modulus Standard l.unit) l.made.items
