@@ -1,0 +1,8 @@
+-- The rows so far are rows of residues.
+use Rattle.std.proofs.Common.{All}
+use Rattle.integral_index.specs.declared.Order.TheVariants.{Standard}
+use Rattle.sparse_row.specs.Row.{IsRow}
+use Rattle.board_tests.proofs.shared.rows_of.Given as goal
+
+abbrev pub invariant-loop-equation : goal.invariant-loop-equation
+invariant-loop-equation l = All (IsRow l.modulus Standard) l.rows.items

@@ -1,0 +1,6 @@
+use Rattle.std.proofs.Common.{ℕ, ◌<◌}
+use Rattle.std.specs.List.{slice_index_or}
+use Rattle.row_tests.proofs.matrices.are_residues.Given as goal
+
+abbrev pub invariant-loop-place : goal.invariant-loop-place
+invariant-loop-place l = (k d : ℕ) → k < l.place → slice_index_or l.entries k d < l.modulus
