@@ -10,6 +10,7 @@ import sys
 import tempfile
 
 TOP = pathlib.Path(__file__).resolve().parent.parent
+MOST_EDITS = 60
 faults = []
 
 
@@ -32,7 +33,7 @@ def check_handles():
 
 
 def check_crates(names):
-    readme = (TOP / "README.md").read_text()
+    rooms = (TOP / "docs" / "ARCHITECTURE.md").read_text()
     for name in names:
         folder = TOP / "crates" / name
         roots = [folder / "src" / file for file in ("lib.rt", "main.rt")]
@@ -43,25 +44,39 @@ def check_crates(names):
         for root in roots:
             if "#![tactic(auto)]" not in root.read_text():
                 fail(f"{root.relative_to(TOP)}: lacks #![tactic(auto)]")
-        if f"`{name}`" not in readme:
-            fail(f"README.md: does not name the crate {name}")
+        if f"`{name}`" not in rooms:
+            fail(f"docs/ARCHITECTURE.md: does not name the crate {name}")
     for folder in sorted((TOP / "crates").iterdir()):
         if folder.is_dir() and folder.name not in names:
             fail(f"crates/{folder.name}: crates.txt does not list it")
 
 
-def has_public_call(folder):
-    sources = (folder / "src").rglob("*.rt")
-    return any("pub fn " in source.read_text() for source in sources)
+def fits_once(edit, folder):
+    """Whether each old text of the edit stands once in its file, after the pairs before it were applied."""
+    lines = edit.read_text().splitlines()
+    named = [line[5:].strip() for line in lines if line.startswith("file:")]
+    if len(named) != 1 or not (folder / named[0]).is_file():
+        return False
+    text = (folder / named[0]).read_text()
+    pairs = [line[5:] for line in lines if line.startswith(("old: ", "new: "))]
+    for old, new in zip(pairs[::2], pairs[1::2]):
+        if text.count(old) != 1:
+            return False
+        text = text.replace(old, new)
+    return bool(pairs)
 
 
-def check_must_fail(names):
-    for name in names:
-        folder = TOP / "crates" / name
-        if not (folder / "src" / "lib.rt").is_file() or not has_public_call(folder):
-            continue
-        if not list((folder / "must-fail").glob("*.edit")):
-            fail(f"crates/{name}: a library without a must-fail edit")
+def check_edits():
+    """Few edits stand in the gate, since each costs a check; and each one, also of attacks/, fits the text it changes."""
+    gate = sorted(TOP.glob("crates/*/must-fail/*.edit"))
+    if len(gate) > MOST_EDITS:
+        fail(f"crates/*/must-fail: {len(gate)} edits, and at most {MOST_EDITS} stand in the gate")
+    for edit in gate:
+        if not fits_once(edit, edit.parent.parent):
+            fail(f"{edit.relative_to(TOP)}: doesn't fit its file")
+    for edit in sorted(TOP.glob("attacks/*/*.edit")):
+        if not fits_once(edit, TOP / "crates" / edit.parent.name):
+            fail(f"{edit.relative_to(TOP)}: doesn't fit its file")
 
 
 def check_examples():
@@ -156,7 +171,7 @@ def check_divisors(program):
 def check_program():
     program = TOP / "crates" / "kira" / "out" / "kira"
     if not program.is_file():
-        print("crates/kira/out/kira isn't built: the refused files were not tried")
+        fail("crates/kira/out/kira: isn't built, so the refused files weren't tried")
         return
     check_refusals(program)
     check_words(program)
@@ -166,7 +181,7 @@ def check_program():
 check_handles()
 crates = crates_of_list()
 check_crates(crates)
-check_must_fail(crates)
+check_edits()
 check_examples()
 check_program()
 for fault in faults:

@@ -1,11 +1,11 @@
 #!/usr/bin/env bash
 # Reduces each example with the built program and compares its table with the expected one:
 #     examples/run.sh [FOLDER]...        all of them where none is given
-# It ends with 1 where a table differs. Where the program isn't built, it says so and ends with 0.
+# It ends with 1 where a table differs, or where the program isn't built.
 set -u
 top=$(cd "$(dirname "$0")/.." && pwd)
 kira=$top/crates/kira/out/kira
-[ -x "$kira" ] || { echo "crates/kira/out/kira isn't built: the examples were not run"; exit 0; }
+[ -x "$kira" ] || { echo "crates/kira/out/kira isn't built: the examples were not run"; exit 1; }
 [ $# -gt 0 ] || set -- "$top"/examples/*/
 status=0
 for folder in "$@"; do
