@@ -3,11 +3,9 @@
 ghost use Rattle.std.specs.Prelude.{◌≡◌, ◌<◌};
 
 use crate::calls::held;
-use crate::jobs::{
-    BOX, BUBBLE, Files, LISTED_TRIANGLE, TADPOLE, TRIANGLE, TWO_TADPOLES, VACUUM,
-};
-use kira_app::{Status, run_alone, sources};
+use crate::jobs::{BOX, BUBBLE, Files, LISTED_TRIANGLE, TADPOLE, TRIANGLE, TWO_TADPOLES, VACUUM};
 use job_plan::Plan;
+use kira_app::{Status, run_alone, sources};
 use reduction_core::{Board, Table, reduce_plain};
 use sparse_row::Row;
 use std::alloc::Global;

@@ -1,6 +1,8 @@
 //! What no clause says: that calls succeed, and what the host's forms do over real files.
 
-use kira_outside::{Files, Sink, Entry, Failed, HostFiles, HostSink, LoadFault, MemoryFiles, MemorySink, Text8};
+use kira_outside::{
+    Entry, Failed, Files, HostFiles, HostSink, LoadFault, MemoryFiles, MemorySink, Sink, Text8,
+};
 use std::alloc::Global;
 use std::fs;
 use std::test::Fail;

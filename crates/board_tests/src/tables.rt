@@ -6,13 +6,12 @@ ghost use Rattle.integral_index.specs.declared.Order.TheVariants.{Standard};
 ghost use Rattle.sparse_row.specs.Row.{IsRow};
 ghost use Rattle.reduction_core.specs.Checks.{IsMultiplierList};
 
-use reduction_core::ForwardFault;
 use crate::shared::{Terms, Wrong, cut, row_of, rows_of};
 use field_word::Modulus;
 use integral_index::{Integral, Order, ZeroSectors, is_index_list};
 use out_of_memory::OutOfMemory;
 use reduction_core::checks::{is_reduced, normal_form_by_scan};
-use reduction_core::{Table, reduce_plain};
+use reduction_core::{ForwardFault, Table, reduce_plain};
 use sparse_row::Row;
 use std::alloc::{AllocFailed, Global};
 use std::test::Fail;

@@ -4,106 +4,14 @@
 ghost use Rattle.std.specs.Prelude.{◌≡◌, ◌≤◌, IfOk, length};
 ghost use Rattle.propagators.specs.Forms.{product_total};
 
-use ibp_generator::{are_seed_indices, equation};
+use crate::shared::{Terms, Wrong, basis_of, has_terms, momentum, point_of, rule, square};
 use field_word::Modulus;
+use ibp_generator::{are_seed_indices, equation};
 use integral_index::{Integral, Order, ZeroSectors, is_index_list};
-use kinematics::{Momentum, Point, Rule, are_coefficients, point, rules_fit};
-use out_of_memory::OutOfMemory;
-use propagators::{Basis, Denominator, denominators_fit, family};
+use propagators::{Basis, Denominator};
 use sparse_row::Row;
 use std::alloc::Global;
 use std::test::Fail;
-
-// What a helper of the tests may answer.
-#[derive(Debug, Drop)]
-enum Wrong {
-    Momentum,
-    Rules,
-    Denominators,
-    Seed,
-    Point,
-    Basis,
-    OutOfMemory,
-}
-
-impl From<OutOfMemory> for Wrong {
-    fn from(_refused: OutOfMemory) -> Wrong {
-        Wrong::OutOfMemory
-    }
-}
-
-fn momentum(alloc: Global, coefficients: &[i16]) -> Result<Momentum, Wrong> {
-    if !are_coefficients(coefficients) {
-        return Err(Wrong::Momentum);
-    }
-    Ok(Momentum::new(alloc, coefficients)?)
-}
-
-fn square(alloc: Global, coefficients: &[i16], mass: u64) -> Result<Denominator, Wrong> {
-    Ok(Denominator::Square {
-        momentum: momentum(alloc, coefficients)?,
-        mass,
-    })
-}
-
-// The rule that the square of a sum of external momenta has this value.
-fn rule(alloc: Global, coefficients: &[i16], value: u64) -> Result<Rule, Wrong> {
-    Ok(Rule {
-        left: momentum(alloc, coefficients)?,
-        right: momentum(alloc, coefficients)?,
-        value,
-    })
-}
-
-fn point_of(
-    alloc: Global,
-    rules: &[Rule],
-    externals: u32,
-    modulus: &Modulus,
-) -> Result<Point, Wrong>
-    requires { externals ≤ 6 }
-    ensures modulus { IfOk result (λ point. point.modulus ≡ modulus.now) }
-    ensures externals { IfOk result (λ point. point.externals ≡ externals) }
-{
-    if !rules_fit(rules, externals, modulus) {
-        return Err(Wrong::Rules);
-    }
-    match point(alloc, rules, externals, modulus) {
-        Ok(found) => Ok(found),
-        Err(_) => Err(Wrong::Point),
-    }
-}
-
-fn basis_of(
-    alloc: Global,
-    loops: u32,
-    denominators: &[Denominator],
-    point: &Point,
-    modulus: &Modulus,
-) -> Result<Basis, Wrong>
-    requires modulus { point.now.modulus ≡ modulus.now }
-    requires loops_from_1 { 1 ≤ loops }
-    requires few_loops { loops ≤ 6 }
-    requires count { length denominators.now ≡ product_total loops point.now.externals }
-    requires few { length denominators.now ≤ 20 }
-    ensures { IfOk result (λ basis. basis.point.modulus ≡ modulus.now) }
-{
-    let width = loops as usize + point.externals() as usize;
-    if !denominators_fit(denominators, width, modulus) {
-        return Err(Wrong::Denominators);
-    }
-    match family(alloc, loops, denominators, point, modulus) {
-        Ok(basis) => Ok(basis),
-        Err(_) => Err(Wrong::Basis),
-    }
-}
-
-fn integral(alloc: Global, indices: &[i8]) -> Result<Integral, Wrong> {
-    if !is_index_list(indices) {
-        return Err(Wrong::Seed);
-    }
-    Ok(Integral::new(alloc, 4, indices)?)
-}
 
 // The equation of a seed of family 4 for dimension 7: its integrals, with one loop momentum and one momentum.
 #[derive(Clone, Copy)]
@@ -141,23 +49,7 @@ fn equation_of(alloc: Global, basis: &Basis, asked: &Asked, modulus: &Modulus) -
     )?)
 }
 
-type Terms = &'static [(&'static [i8], u64)];
-
 type Wanted = (&'static [i8], u32, &'static [u32], Terms);
-
-// Whether the row has just these terms, from the greatest integral to the least.
-fn has_terms(alloc: Global, row: &Row, terms: &[(&[i8], u64)]) -> Result<bool, Wrong> {
-    let found = row.terms();
-    if found.len() != terms.len() {
-        return Ok(false);
-    }
-    for k in 0..found.len() {
-        if found[k].integral != integral(alloc, terms[k].0)? || found[k].coefficient != terms[k].1 {
-            return Ok(false);
-        }
-    }
-    Ok(true)
-}
 
 fn gives(
     alloc: Global,
@@ -168,7 +60,7 @@ fn gives(
 ) -> Result<bool, Wrong>
     requires { basis.now.point.modulus ≡ modulus.now }
 {
-    has_terms(alloc, &equation_of(alloc, basis, &asked, modulus)?, terms)
+    Ok(has_terms(&equation_of(alloc, basis, &asked, modulus)?, 4, terms))
 }
 
 fn ask<'a>(seed: &'a [i8], loop_number: u32, momentum_number: u32, zeros: &'a [u32]) -> Asked<'a> {

@@ -7,116 +7,19 @@ ghost use Rattle.propagators.specs.Forms.{product_total};
 ghost use Rattle.job_equations.specs.Equations.{AreSymmetriesOf, IsSeedOf};
 ghost use Rattle.job_equations.specs.Bounds.{IsEquationShape};
 
-use job_equations::{EquationShape, equations, term_bound};
+use crate::shared::{
+    Terms, Wrong, basis_of, has_terms, integral, momentum, point_of, rule, square, symmetric,
+};
 use field_word::Modulus;
 use ibp_generator::are_seed_indices;
-use integral_index::{Integral, Order, ZeroSectors, is_index_list};
-use kinematics::{Momentum, Point, Rule, are_coefficients, are_wide, point, rules_fit};
-use out_of_memory::OutOfMemory;
-use propagators::{Basis, Denominator, denominators_fit, family};
-use sparse_row::{Row, Term};
+use integral_index::{Integral, Order, ZeroSectors};
+use job_equations::{EquationShape, equations, term_bound};
+use propagators::{Basis, Denominator};
+use sparse_row::Row;
 use sqlite_items::Items;
-use std::alloc::{AllocError, AllocFailed, Global};
+use std::alloc::Global;
 use std::test::Fail;
-use symmetry_maps::{Symmetry, check};
-
-// What a helper of the tests may answer.
-#[derive(Debug, Drop)]
-enum Wrong {
-    Momentum,
-    Rules,
-    Denominators,
-    Seed,
-    Shape,
-    Point,
-    Basis,
-    Symmetry,
-    OutOfMemory,
-}
-
-impl From<OutOfMemory> for Wrong {
-    fn from(_refused: OutOfMemory) -> Wrong {
-        Wrong::OutOfMemory
-    }
-}
-
-impl From<AllocError> for Wrong {
-    fn from(_refused: AllocError) -> Wrong {
-        Wrong::OutOfMemory
-    }
-}
-
-impl<T: Drop> From<AllocFailed<T>> for Wrong {
-    fn from(_refused: AllocFailed<T>) -> Wrong {
-        Wrong::OutOfMemory
-    }
-}
-
-fn momentum(alloc: Global, coefficients: &[i16]) -> Result<Momentum, Wrong> {
-    if !are_coefficients(coefficients) {
-        return Err(Wrong::Momentum);
-    }
-    Ok(Momentum::new(alloc, coefficients)?)
-}
-
-fn square(alloc: Global, coefficients: &[i16], mass: u64) -> Result<Denominator, Wrong> {
-    Ok(Denominator::Square {
-        momentum: momentum(alloc, coefficients)?,
-        mass,
-    })
-}
-
-// The rule that the square of a sum of external momenta has this value.
-fn rule(alloc: Global, coefficients: &[i16], value: u64) -> Result<Rule, Wrong> {
-    Ok(Rule {
-        left: momentum(alloc, coefficients)?,
-        right: momentum(alloc, coefficients)?,
-        value,
-    })
-}
-
-fn point_of(
-    alloc: Global,
-    rules: &[Rule],
-    externals: u32,
-    modulus: &Modulus,
-) -> Result<Point, Wrong>
-    requires { externals ≤ 6 }
-    ensures modulus { IfOk result (λ point. point.modulus ≡ modulus.now) }
-    ensures externals { IfOk result (λ point. point.externals ≡ externals) }
-{
-    if !rules_fit(rules, externals, modulus) {
-        return Err(Wrong::Rules);
-    }
-    match point(alloc, rules, externals, modulus) {
-        Ok(found) => Ok(found),
-        Err(_) => Err(Wrong::Point),
-    }
-}
-
-fn basis_of(
-    alloc: Global,
-    loops: u32,
-    denominators: &[Denominator],
-    point: &Point,
-    modulus: &Modulus,
-) -> Result<Basis, Wrong>
-    requires modulus { point.now.modulus ≡ modulus.now }
-    requires loops_from_1 { 1 ≤ loops }
-    requires few_loops { loops ≤ 6 }
-    requires count { length denominators.now ≡ product_total loops point.now.externals }
-    requires few { length denominators.now ≤ 20 }
-    ensures { IfOk result (λ basis. basis.point.modulus ≡ modulus.now) }
-{
-    let width = loops as usize + point.externals() as usize;
-    if !denominators_fit(denominators, width, modulus) {
-        return Err(Wrong::Denominators);
-    }
-    match family(alloc, loops, denominators, point, modulus) {
-        Ok(basis) => Ok(basis),
-        Err(_) => Err(Wrong::Basis),
-    }
-}
+use symmetry_maps::Symmetry;
 
 // The tadpole: k1 with this squared mass.
 fn tadpole(alloc: Global, mass: u64, modulus: &Modulus) -> Result<Basis, Wrong>
@@ -150,38 +53,6 @@ fn vacuum(alloc: Global, modulus: &Modulus) -> Result<Basis, Wrong>
         },
     ];
     basis_of(alloc, 2, &denominators, &point, modulus)
-}
-
-// A basis, and the symmetry by these images of the loop momenta.
-fn symmetric(
-    alloc: Global,
-    images: &[Momentum],
-    denominators: &[Denominator],
-    point: &Point,
-    modulus: &Modulus,
-) -> Result<(Basis, Symmetry), Wrong>
-    requires { point.now.modulus ≡ modulus.now }
-    ensures { IfOk result (λ both. both.0.point.modulus ≡ modulus.now) }
-{
-    if images.is_empty() || images.len() > 6 || denominators.len() > 20 {
-        return Err(Wrong::Denominators);
-    }
-    let loops = images.len() as u32;
-    let width = images.len() + point.externals() as usize;
-    let total = loops * (loops + 1) / 2 + loops * point.externals();
-    if denominators.len() != total as usize
-        || !denominators_fit(denominators, width, modulus)
-        || !are_wide(images, width)
-    {
-        return Err(Wrong::Denominators);
-    }
-    match family(alloc, loops, denominators, point, modulus) {
-        Ok(basis) => match check(alloc, images, denominators, point, modulus) {
-            Ok(symmetry) => Ok((basis, symmetry)),
-            Err(_) => Err(Wrong::Symmetry),
-        },
-        Err(_) => Err(Wrong::Basis),
-    }
 }
 
 // The bubble, and the symmetry by this image of k1.
@@ -240,13 +111,6 @@ fn are_seeds_of(bases: &[Basis], seeds: &[Integral]) -> bool
     seeds.iter().all(|seed| is_seed_of(bases, seed))
 }
 
-fn integral(alloc: Global, family: u32, indices: &[i8]) -> Result<Integral, Wrong> {
-    if !is_index_list(indices) {
-        return Err(Wrong::Seed);
-    }
-    Ok(Integral::new(alloc, family, indices)?)
-}
-
 fn integrals(alloc: Global, named: &[(u32, &[i8])]) -> Result<Vec<Integral>, Wrong> {
     let mut seeds = Vec::new(alloc);
     for (family, indices) in named {
@@ -294,8 +158,6 @@ fn rows_of(
 }
 
 // The terms of a row, each with the indices of its integral and the coefficient.
-type Terms = &'static [(&'static [i8], u64)];
-
 // A family of the jobs below, and which symmetries it has.
 enum Known {
     // With this squared mass.
@@ -391,26 +253,6 @@ fn rows_of_job(alloc: Global, job: &Job, modulus: &Modulus) -> Result<Vec<Row>, 
             rows_of_families(alloc, job, &bases, &symmetries, modulus)
         }
     }
-}
-
-fn is_term(term: &Term, family: u32, indices: &[i8], coefficient: u64) -> bool {
-    term.integral.family() == family
-        && term.integral.indices() == indices
-        && term.coefficient == coefficient
-}
-
-// Whether the row has just these terms of a family, from the greatest integral to the least.
-fn has_terms(row: &Row, family: u32, terms: &[(&[i8], u64)]) -> bool {
-    let found = row.terms();
-    if found.len() != terms.len() {
-        return false;
-    }
-    for k in 0..found.len() {
-        if !is_term(&found[k], family, terms[k].0, terms[k].1) {
-            return false;
-        }
-    }
-    true
 }
 
 // Whether these are the rows, each of a family and with these terms.

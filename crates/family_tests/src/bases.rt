@@ -1,16 +1,18 @@
 ghost use Rattle.std.specs.Prelude.{◌≡◌, IfOk};
 
-use propagators::{Basis, BasisFault, Denominator, Form, denominators_fit, family, form, image, product};
 use field_word::{Composite, Modulus};
 use kinematics::{
     Momentum, Point, PointFault, Rule, are_coefficients, are_wide, point, residue, rules_fit,
 };
 use out_of_memory::OutOfMemory;
+use propagators::{
+    Basis, BasisFault, Denominator, Form, denominators_fit, family, form, image, product,
+};
 use std::alloc::Global;
 use std::test::Fail;
 
 // The momentum with these coefficients.
-fn momentum(alloc: Global, coefficients: &[i16]) -> Result<Momentum, OutOfMemory>
+pub(crate) fn momentum(alloc: Global, coefficients: &[i16]) -> Result<Momentum, OutOfMemory>
     ensures { IfOk result (λ m. m ≡ coefficients.now) }
 {
     if are_coefficients(coefficients) {

@@ -1,9 +1,7 @@
-//! Tests of points, of bases of denominators, and of symmetries.
+//! Tests of kinematic points and of bases of denominators.
 #![tactic(auto)]
 
 #[cfg(test)]
 mod bases;
 #[cfg(test)]
 mod points;
-#[cfg(test)]
-mod symmetries;

@@ -1,16 +1,12 @@
 //! Points worked by hand: the massless triangle and box, and rules that have none.
 
-use kinematics::{Momentum, Point, PointFault, Rule, are_coefficients, are_wide, point, residue, rules_fit};
+use crate::bases::momentum;
 use field_word::{Composite, Modulus};
+use kinematics::{
+    Momentum, Point, PointFault, Rule, are_coefficients, are_wide, point, residue, rules_fit,
+};
 use std::alloc::Global;
 use std::test::Fail;
-
-fn momentum(alloc: Global, coefficients: &[i16]) -> Result<Momentum, Fail> {
-    if !are_coefficients(coefficients) {
-        return Err("a coefficient is out of range")?;
-    }
-    Ok(Momentum::new(alloc, coefficients)?)
-}
 
 // Adds the rule that the product of two sums of momenta has this value.
 fn add(

@@ -5,66 +5,19 @@ ghost use Rattle.integral_index.specs.declared.Order.TheVariants.{Standard};
 ghost use Rattle.sparse_row.specs.Row.{IsRow};
 ghost use Rattle.sector_forward.specs.Elimination.{IsTaken, order_of};
 
-use sector_forward::{Eliminated, ForwardFault, eliminate};
+use crate::shared::{Terms, Wrong, are, row_of};
 use field_word::Modulus;
-use integral_index::{Integral, Order, Unit, is_index_list};
-use out_of_memory::OutOfMemory;
+use integral_index::{Order, Unit};
+use sector_forward::{Eliminated, ForwardFault, eliminate};
 use sparse_row::Row;
-use std::alloc::{AllocFailed, Global};
+use std::alloc::Global;
 use std::marker::Brand;
 use std::sync::ledger::{Blank, Ledger};
 use std::test::Fail;
 use step_counter::Steps;
 
-// What a helper of the tests may answer.
-#[derive(Debug, Drop)]
-enum Wrong {
-    Indices,
-    Unit,
-    Refused(ForwardFault),
-    OutOfMemory,
-}
-
-impl From<OutOfMemory> for Wrong {
-    fn from(_refused: OutOfMemory) -> Wrong {
-        Wrong::OutOfMemory
-    }
-}
-
-impl<T: Drop> From<AllocFailed<T>> for Wrong {
-    fn from(_refused: AllocFailed<T>) -> Wrong {
-        Wrong::OutOfMemory
-    }
-}
-
-type Terms = &'static [([i8; 3], u64)];
-
-fn integral(alloc: Global, indices: &[i8]) -> Result<Integral, Wrong> {
-    if !is_index_list(indices) {
-        return Err(Wrong::Indices);
-    }
-    Ok(Integral::new(alloc, 0, indices)?)
-}
-
-fn row_of(alloc: Global, terms: &[([i8; 3], u64)], modulus: &Modulus) -> Result<Row, Wrong>
-    ensures { IfOk result (λ row. IsRow modulus.now Standard row) }
-{
-    let _p = modulus.value();
-    let mut row = Row::new(alloc, Order::Standard);
-    for (indices, coefficient) in terms {
-        let x = integral(alloc, indices)?;
-        row.add_term(&x, modulus.reduce(u128::from(*coefficient)), modulus)?;
-    }
-    Ok(row)
-}
-
 // A row of these terms whose greatest integral is of the unit.
-fn taken_row(
-    alloc: Global,
-    terms: &[([i8; 3], u64)],
-    unit: Unit,
-    modulus: &Modulus,
-) -> Result<Row, Wrong>
+fn taken_row(alloc: Global, terms: Terms, unit: Unit, modulus: &Modulus) -> Result<Row, Wrong>
     ensures { IfOk result (λ row. IsTaken modulus.now Standard unit row) }
 {
     let row = row_of(alloc, terms, modulus)?;
@@ -122,19 +75,6 @@ fn eliminated(
     }
 }
 
-// Whether the rows are these, one by one.
-fn are(alloc: Global, rows: &[Row], wanted: &[Terms], modulus: &Modulus) -> Result<bool, Wrong> {
-    if rows.len() != wanted.len() {
-        return Ok(false);
-    }
-    for i in 0..rows.len() {
-        if !rows[i].equals(&row_of(alloc, wanted[i], modulus)?) {
-            return Ok(false);
-        }
-    }
-    Ok(true)
-}
-
 // Three equations of the massless triangle at d = 7, s = 5: no two of them share an integral of the
 // sector, so each is divided by 3, 5 or 96, whose inverses are 34, 81 and 20.
 #[test]
@@ -144,9 +84,9 @@ fn the_top_sector_of_the_triangle(rt: HostRuntime) -> Result<(), Fail> {
     let made = eliminated(
         alloc,
         &[
-            &[([0, 1, 2], 100), ([0, 2, 1], 100), ([1, 2, 1], 96)],
-            &[([0, 1, 2], 100), ([0, 2, 1], 100), ([1, 1, 1], 3)],
-            &[([0, 1, 2], 1), ([0, 2, 1], 1), ([1, 1, 2], 5)],
+            &[(&[0, 1, 2], 100), (&[0, 2, 1], 100), (&[1, 2, 1], 96)],
+            &[(&[0, 1, 2], 100), (&[0, 2, 1], 100), (&[1, 1, 1], 3)],
+            &[(&[0, 1, 2], 1), (&[0, 2, 1], 1), (&[1, 1, 2], 5)],
         ],
         7,
         p,
@@ -154,9 +94,9 @@ fn the_top_sector_of_the_triangle(rt: HostRuntime) -> Result<(), Fail> {
     assert_eq!(rt; made.input().len(), 3);
     assert_eq!(rt; made.rest().len(), 0);
     let wanted: [Terms; 3] = [
-        &[([1, 1, 1], 1), ([0, 1, 2], 67), ([0, 2, 1], 67)],
-        &[([1, 1, 2], 1), ([0, 1, 2], 81), ([0, 2, 1], 81)],
-        &[([1, 2, 1], 1), ([0, 1, 2], 81), ([0, 2, 1], 81)],
+        &[(&[1, 1, 1], 1), (&[0, 1, 2], 67), (&[0, 2, 1], 67)],
+        &[(&[1, 1, 2], 1), (&[0, 1, 2], 81), (&[0, 2, 1], 81)],
+        &[(&[1, 2, 1], 1), (&[0, 1, 2], 81), (&[0, 2, 1], 81)],
     ];
     assert!(rt; are(alloc, made.rows(), &wanted, &p)?);
     Ok(())
@@ -164,58 +104,58 @@ fn the_top_sector_of_the_triangle(rt: HostRuntime) -> Result<(), Fail> {
 
 // The equations of seeds of the triangle in which the first index is 0 or less.
 const EQUATIONS: [Terms; 9] = [
-    &[([0, 1, 1], 5), ([-1, 1, 2], 100), ([-1, 2, 1], 100)],
+    &[(&[0, 1, 1], 5), (&[-1, 1, 2], 100), (&[-1, 2, 1], 100)],
     &[
-        ([0, 1, 1], 100),
-        ([0, 1, 2], 5),
-        ([-1, 1, 2], 1),
-        ([-1, 2, 1], 1),
+        (&[0, 1, 1], 100),
+        (&[0, 1, 2], 5),
+        (&[-1, 1, 2], 1),
+        (&[-1, 2, 1], 1),
     ],
     &[
-        ([0, 1, 1], 1),
-        ([0, 2, 1], 96),
-        ([-1, 1, 2], 100),
-        ([-1, 2, 1], 100),
+        (&[0, 1, 1], 1),
+        (&[0, 2, 1], 96),
+        (&[-1, 1, 2], 100),
+        (&[-1, 2, 1], 100),
     ],
-    &[([0, 1, 2], 4), ([-1, 1, 3], 99), ([-1, 2, 2], 100)],
+    &[(&[0, 1, 2], 4), (&[-1, 1, 3], 99), (&[-1, 2, 2], 100)],
     &[
-        ([0, 1, 2], 100),
-        ([0, 1, 3], 10),
-        ([-1, 1, 3], 2),
-        ([-1, 2, 2], 1),
-    ],
-    &[
-        ([0, 1, 2], 2),
-        ([0, 2, 1], 1),
-        ([0, 2, 2], 96),
-        ([-1, 1, 3], 99),
-        ([-1, 2, 2], 100),
-    ],
-    &[([0, 2, 1], 4), ([-1, 2, 2], 100), ([-1, 3, 1], 99)],
-    &[
-        ([0, 1, 2], 100),
-        ([0, 2, 1], 99),
-        ([0, 2, 2], 5),
-        ([-1, 2, 2], 1),
-        ([-1, 3, 1], 2),
+        (&[0, 1, 2], 100),
+        (&[0, 1, 3], 10),
+        (&[-1, 1, 3], 2),
+        (&[-1, 2, 2], 1),
     ],
     &[
-        ([0, 2, 1], 1),
-        ([0, 3, 1], 91),
-        ([-1, 2, 2], 100),
-        ([-1, 3, 1], 99),
+        (&[0, 1, 2], 2),
+        (&[0, 2, 1], 1),
+        (&[0, 2, 2], 96),
+        (&[-1, 1, 3], 99),
+        (&[-1, 2, 2], 100),
+    ],
+    &[(&[0, 2, 1], 4), (&[-1, 2, 2], 100), (&[-1, 3, 1], 99)],
+    &[
+        (&[0, 1, 2], 100),
+        (&[0, 2, 1], 99),
+        (&[0, 2, 2], 5),
+        (&[-1, 2, 2], 1),
+        (&[-1, 3, 1], 2),
+    ],
+    &[
+        (&[0, 2, 1], 1),
+        (&[0, 3, 1], 91),
+        (&[-1, 2, 2], 100),
+        (&[-1, 3, 1], 99),
     ],
 ];
 
 const ELIMINATED: [Terms; 8] = [
-    &[([0, 1, 2], 1), ([0, 1, 1], 21)],
-    &[([0, 2, 1], 1), ([0, 1, 1], 21)],
-    &[([-1, 2, 1], 1), ([-1, 1, 2], 1), ([0, 1, 1], 96)],
-    &[([0, 1, 3], 1), ([0, 1, 1], 24)],
-    &[([0, 2, 2], 1), ([0, 1, 1], 16)],
-    &[([0, 3, 1], 1), ([0, 1, 1], 24)],
-    &[([-1, 2, 2], 1), ([-1, 1, 3], 2), ([0, 1, 1], 84)],
-    &[([-1, 3, 1], 1), ([-1, 1, 3], 100)],
+    &[(&[0, 1, 2], 1), (&[0, 1, 1], 21)],
+    &[(&[0, 2, 1], 1), (&[0, 1, 1], 21)],
+    &[(&[-1, 2, 1], 1), (&[-1, 1, 2], 1), (&[0, 1, 1], 96)],
+    &[(&[0, 1, 3], 1), (&[0, 1, 1], 24)],
+    &[(&[0, 2, 2], 1), (&[0, 1, 1], 16)],
+    &[(&[0, 3, 1], 1), (&[0, 1, 1], 24)],
+    &[(&[-1, 2, 2], 1), (&[-1, 1, 3], 2), (&[0, 1, 1], 84)],
+    &[(&[-1, 3, 1], 1), (&[-1, 1, 3], 100)],
 ];
 
 // The nine equations of the bubble in the triangle leave one master and a numerator.
@@ -238,14 +178,14 @@ fn a_rest_is_left_to_lesser_units(rt: HostRuntime) -> Result<(), Fail> {
     let made = eliminated(
         alloc,
         &[
-            &[([1, 1, 0], 1), ([0, 1, 0], 3)],
-            &[([1, 1, 0], 1), ([1, 0, 0], 2)],
+            &[(&[1, 1, 0], 1), (&[0, 1, 0], 3)],
+            &[(&[1, 1, 0], 1), (&[1, 0, 0], 2)],
         ],
         3,
         p,
     )?;
-    let rule: [Terms; 1] = [&[([1, 1, 0], 1), ([1, 0, 0], 2)]];
-    let rest: [Terms; 1] = [&[([0, 1, 0], 1), ([1, 0, 0], 33)]];
+    let rule: [Terms; 1] = [&[(&[1, 1, 0], 1), (&[1, 0, 0], 2)]];
+    let rest: [Terms; 1] = [&[(&[0, 1, 0], 1), (&[1, 0, 0], 33)]];
     assert!(rt; are(alloc, made.rows(), &rule, &p)?);
     assert!(rt; are(alloc, made.rest(), &rest, &p)?);
     let (input, rows, rest) = made.into_parts();
@@ -260,14 +200,14 @@ fn dependent_rows_vanish(rt: HostRuntime) -> Result<(), Fail> {
     let made = eliminated(
         alloc,
         &[
-            &[([2, 0, 0], 2), ([1, 0, 0], 4)],
-            &[([2, 0, 0], 3), ([1, 0, 0], 6)],
-            &[([2, 0, 0], 100), ([1, 0, 0], 99)],
+            &[(&[2, 0, 0], 2), (&[1, 0, 0], 4)],
+            &[(&[2, 0, 0], 3), (&[1, 0, 0], 6)],
+            &[(&[2, 0, 0], 100), (&[1, 0, 0], 99)],
         ],
         1,
         p,
     )?;
-    let wanted: [Terms; 1] = [&[([2, 0, 0], 1), ([1, 0, 0], 2)]];
+    let wanted: [Terms; 1] = [&[(&[2, 0, 0], 1), (&[1, 0, 0], 2)]];
     assert!(rt; are(alloc, made.rows(), &wanted, &p)?);
     assert_eq!(rt; made.rest().len(), 0);
     assert_eq!(rt; made.unit().sector, 1);
@@ -281,7 +221,7 @@ fn dependent_rows_vanish(rt: HostRuntime) -> Result<(), Fail> {
 fn a_composite_modulus_is_named_by_a_divisor(rt: HostRuntime) -> Result<(), Fail> {
     let alloc = rt.alloc();
     let p = Modulus::new(15)?;
-    match eliminated(alloc, &[&[([2, 0, 0], 9), ([1, 0, 0], 5)]], 1, p) {
+    match eliminated(alloc, &[&[(&[2, 0, 0], 9), (&[1, 0, 0], 5)]], 1, p) {
         Err(Wrong::Refused(ForwardFault::Composite(fault))) => assert_eq!(rt; fault.divisor, 3),
         _ => assert!(rt; false, "no divisor"),
     }
@@ -299,18 +239,18 @@ fn a_unit_is_eliminated_modulo_15(rt: HostRuntime) -> Result<(), Fail> {
     let made = eliminated(
         alloc,
         &[
-            &[([2, 1, 0], 7), ([1, 1, 0], 3), ([1, 0, 0], 10)],
-            &[([1, 1, 0], 4), ([0, 1, 0], 3), ([1, 0, 0], 2)],
-            &[([1, 1, 0], 2), ([0, 1, 0], 5)],
+            &[(&[2, 1, 0], 7), (&[1, 1, 0], 3), (&[1, 0, 0], 10)],
+            &[(&[1, 1, 0], 4), (&[0, 1, 0], 3), (&[1, 0, 0], 2)],
+            &[(&[1, 1, 0], 2), (&[0, 1, 0], 5)],
         ],
         3,
         p,
     )?;
     let rules: [Terms; 2] = [
-        &[([1, 1, 0], 1), ([1, 0, 0], 5)],
-        &[([2, 1, 0], 1), ([1, 0, 0], 10)],
+        &[(&[1, 1, 0], 1), (&[1, 0, 0], 5)],
+        &[(&[2, 1, 0], 1), (&[1, 0, 0], 10)],
     ];
-    let rest: [Terms; 1] = [&[([0, 1, 0], 1), ([1, 0, 0], 4)]];
+    let rest: [Terms; 1] = [&[(&[0, 1, 0], 1), (&[1, 0, 0], 4)]];
     assert!(rt; are(alloc, made.rows(), &rules, &p)?);
     assert!(rt; are(alloc, made.rest(), &rest, &p)?);
     assert_eq!(rt; made.modulus().value(), 15);
@@ -326,15 +266,15 @@ fn a_unit_is_eliminated_modulo_25(rt: HostRuntime) -> Result<(), Fail> {
     let made = eliminated(
         alloc,
         &[
-            &[([1, 0, 0], 5), ([2, 0, 0], 19)],
-            &[([2, 0, 0], 3), ([3, 0, 0], 13)],
+            &[(&[1, 0, 0], 5), (&[2, 0, 0], 19)],
+            &[(&[2, 0, 0], 3), (&[3, 0, 0], 13)],
         ],
         1,
         p,
     )?;
     let wanted: [Terms; 2] = [
-        &[([2, 0, 0], 1), ([1, 0, 0], 20)],
-        &[([3, 0, 0], 1), ([1, 0, 0], 5)],
+        &[(&[2, 0, 0], 1), (&[1, 0, 0], 20)],
+        &[(&[3, 0, 0], 1), (&[1, 0, 0], 5)],
     ];
     assert!(rt; are(alloc, made.rows(), &wanted, &p)?);
     assert_eq!(rt; made.rest().len(), 0);

@@ -14,4 +14,6 @@ mod rows;
 #[cfg(test)]
 mod seeds;
 #[cfg(test)]
+mod shared;
+#[cfg(test)]
 mod substitution;

@@ -1,8 +1,10 @@
 ghost use Rattle.std.specs.Prelude.{◌<◌, All, IsTrue};
 ghost use Rattle.matrix_elimination.specs.Vectors.{IsVector};
 
-use matrix_elimination::{Eliminated, EliminationFault, Solved, SystemFault, Vector, dot, eliminate, solve};
 use field_word::{Composite, Modulus};
+use matrix_elimination::{
+    Eliminated, EliminationFault, Solved, SystemFault, Vector, dot, eliminate, solve,
+};
 use std::alloc::Global;
 use std::test::Fail;
 

@@ -1,76 +1,48 @@
-ghost use Rattle.std.specs.Prelude.{IfOk};
-ghost use Rattle.integral_index.specs.declared.Order.TheVariants.{Standard};
-ghost use Rattle.sparse_row.specs.Row.{IsRow};
+//! Rows of the massless triangle, reduced step by step as by hand.
 
+use crate::shared::{Terms, integral, row_of};
 use field_word::Modulus;
-use integral_index::Integral;
-use integral_index::Order;
-use out_of_memory::OutOfMemory;
-use std::alloc::Global;
+use integral_index::{Integral, Order};
 use sparse_row::{Row, copies, is_term_list, push_copies};
 use std::test::Fail;
 
-// An integral of the massless triangle.
-fn triangle(alloc: Global, indices: [i8; 3]) -> Result<Integral, OutOfMemory> {
-    if integral_index::is_index_list(&indices) {
-        Integral::new(alloc, 0, &indices)
-    } else {
-        Err(OutOfMemory)
-    }
-}
-
-// The row of these terms, which are added one by one in this order.
-fn row_of(alloc: Global, modulus: &Modulus, terms: &[([i8; 3], u64)]) -> Result<Row, OutOfMemory>
-    ensures { IfOk result (λ row. IsRow modulus.now Standard row) }
-{
-    let _p = modulus.value();
-    let mut row = Row::new(alloc, Order::Standard);
-    for (indices, coefficient) in terms {
-        let integral = triangle(alloc, *indices)?;
-        row.add_term(&integral, modulus.reduce(u128::from(*coefficient)), modulus)?;
-    }
-    Ok(row)
-}
-
 // Whether the row has just these terms, from the greatest integral to the least.
-fn has_terms(row: &Row, wanted: &[([i8; 3], u64)]) -> bool {
+fn has_terms(row: &Row, wanted: Terms) -> bool {
     let terms = row.terms();
     if terms.len() != wanted.len() {
         return false;
     }
     for (term, want) in terms.iter().zip(wanted) {
-        if term.integral.indices() != want.0.as_slice() || term.coefficient != want.1 {
+        if term.integral.indices() != want.0 || term.coefficient != want.1 {
             return false;
         }
     }
     true
 }
 
-type Terms = &'static [([i8; 3], u64)];
-
-const FIRST: Terms = &[([0, 1, 1], 5), ([-1, 2, 1], 100), ([-1, 1, 2], 100)];
+const FIRST: Terms = &[(&[0, 1, 1], 5), (&[-1, 2, 1], 100), (&[-1, 1, 2], 100)];
 
 const SECOND: Terms = &[
-    ([0, 1, 1], 100),
-    ([-1, 2, 1], 1),
-    ([0, 1, 2], 5),
-    ([-1, 1, 2], 1),
+    (&[0, 1, 1], 100),
+    (&[-1, 2, 1], 1),
+    (&[0, 1, 2], 5),
+    (&[-1, 1, 2], 1),
 ];
 
 const THIRD: Terms = &[
-    ([0, 1, 1], 1),
-    ([0, 2, 1], 96),
-    ([-1, 2, 1], 100),
-    ([-1, 1, 2], 100),
+    (&[0, 1, 1], 1),
+    (&[0, 2, 1], 96),
+    (&[-1, 2, 1], 100),
+    (&[-1, 1, 2], 100),
 ];
 
-const TOP: Terms = &[([1, 1, 1], 3), ([0, 2, 1], 100), ([0, 1, 2], 100)];
+const TOP: Terms = &[(&[1, 1, 1], 3), (&[0, 2, 1], 100), (&[0, 1, 2], 100)];
 
 const SECOND_DESCENDING: Terms = &[
-    ([-1, 2, 1], 1),
-    ([-1, 1, 2], 1),
-    ([0, 1, 2], 5),
-    ([0, 1, 1], 100),
+    (&[-1, 2, 1], 1),
+    (&[-1, 1, 2], 1),
+    (&[0, 1, 2], 5),
+    (&[0, 1, 1], 100),
 ];
 
 // The rows of the massless triangle at d = 7, s = 5 modulo 101, worked by a script from the derivative
@@ -80,20 +52,20 @@ const SECOND_DESCENDING: Terms = &[
 fn the_massless_triangle_is_reduced(rt: HostRuntime) -> Result<(), Fail> {
     let alloc = rt.alloc();
     let p = Modulus::new(101)?;
-    let first = row_of(alloc, &p, FIRST)?;
-    let mut second = row_of(alloc, &p, SECOND)?;
-    let mut third = row_of(alloc, &p, THIRD)?;
-    let mut top = row_of(alloc, &p, TOP)?;
+    let first = row_of(alloc, FIRST, &p)?;
+    let mut second = row_of(alloc, SECOND, &p)?;
+    let mut third = row_of(alloc, THIRD, &p)?;
+    let mut top = row_of(alloc, TOP, &p)?;
     assert!(rt; has_terms(&second, SECOND_DESCENDING));
 
     second.add_multiple(&first, 1, &p)?;
-    assert!(rt; has_terms(&second, &[([0, 1, 2], 5), ([0, 1, 1], 4)]));
+    assert!(rt; has_terms(&second, &[(&[0, 1, 2], 5), (&[0, 1, 1], 4)]));
     assert!(rt; !second.is_empty());
     second.normalise(&p)?;
-    assert!(rt; has_terms(&second, &[([0, 1, 2], 1), ([0, 1, 1], 21)]));
+    assert!(rt; has_terms(&second, &[(&[0, 1, 2], 1), (&[0, 1, 1], 21)]));
 
     third.add_multiple(&first, 100, &p)?;
-    assert!(rt; has_terms(&third, &[([0, 2, 1], 96), ([0, 1, 1], 97)]));
+    assert!(rt; has_terms(&third, &[(&[0, 2, 1], 96), (&[0, 1, 1], 97)]));
     assert!(rt; !third.is_empty());
     third.normalise(&p)?;
 
@@ -101,7 +73,7 @@ fn the_massless_triangle_is_reduced(rt: HostRuntime) -> Result<(), Fail> {
     top.add_multiple(&third, 1, &p)?;
     assert!(rt; !top.is_empty());
     top.normalise(&p)?;
-    assert!(rt; has_terms(&top, &[([1, 1, 1], 1), ([0, 1, 1], 14)]));
+    assert!(rt; has_terms(&top, &[(&[1, 1, 1], 1), (&[0, 1, 1], 14)]));
     Ok(())
 }
 
@@ -112,20 +84,20 @@ fn a_row_is_looked_up(rt: HostRuntime) -> Result<(), Fail> {
     let p = Modulus::new(101)?;
     let row = row_of(
         alloc,
+        &[(&[0, 1, 1], 14), (&[1, 1, 1], 1), (&[0, 2, 1], 3)],
         &p,
-        &[([0, 1, 1], 14), ([1, 1, 1], 1), ([0, 2, 1], 3)],
     )?;
-    let greatest = triangle(alloc, [1, 1, 1])?;
+    let greatest = integral(alloc, &[1, 1, 1])?;
     assert!(rt; matches!(row.greatest(), Some(x) if Order::Standard.compare(x, &greatest).is_eq()));
     for (indices, coefficient) in [
-        ([1, 1, 1], 1),
-        ([0, 2, 1], 3),
-        ([0, 1, 2], 0),
-        ([0, 1, 1], 14),
-        ([2, 1, 1], 0),
-        ([0, 0, 0], 0),
+        (&[1, 1, 1], 1),
+        (&[0, 2, 1], 3),
+        (&[0, 1, 2], 0),
+        (&[0, 1, 1], 14),
+        (&[2, 1, 1], 0),
+        (&[0, 0, 0], 0),
     ] {
-        assert_eq!(rt; row.coefficient(&triangle(alloc, indices)?), coefficient);
+        assert_eq!(rt; row.coefficient(&integral(alloc, indices)?), coefficient);
     }
     assert!(rt; Row::new(alloc, Order::Standard).greatest().is_none());
     Ok(())
@@ -138,19 +110,19 @@ fn a_composite_modulus(rt: HostRuntime) -> Result<(), Fail> {
     let p = Modulus::new(15)?;
     let mut row = row_of(
         alloc,
+        &[(&[0, 0, 1], 3), (&[0, 1, 1], 5), (&[1, 1, 1], 10)],
         &p,
-        &[([0, 0, 1], 3), ([0, 1, 1], 5), ([1, 1, 1], 10)],
     )?;
     assert!(rt; !row.is_empty());
     match row.normalise(&p) {
         Ok(()) => assert!(rt; false, "10 has no inverse"),
         Err(fault) => assert_eq!(rt; fault.divisor, 5),
     }
-    assert!(rt; has_terms(&row, &[([1, 1, 1], 10), ([0, 1, 1], 5), ([0, 0, 1], 3)]));
+    assert!(rt; has_terms(&row, &[(&[1, 1, 1], 10), (&[0, 1, 1], 5), (&[0, 0, 1], 3)]));
     let before = row.copy()?;
-    let other = row_of(alloc, &p, &[([0, 1, 1], 3), ([0, 0, 1], 2)])?;
+    let other = row_of(alloc, &[(&[0, 1, 1], 3), (&[0, 0, 1], 2)], &p)?;
     row.add_multiple(&other, 5, &p)?;
-    assert!(rt; has_terms(&row, &[([1, 1, 1], 10), ([0, 1, 1], 5), ([0, 0, 1], 13)]));
+    assert!(rt; has_terms(&row, &[(&[1, 1, 1], 10), (&[0, 1, 1], 5), (&[0, 0, 1], 13)]));
     assert!(rt; !row.equals(&before));
     Ok(())
 }
@@ -162,11 +134,11 @@ fn terms_give_the_row(rt: HostRuntime) -> Result<(), Fail> {
     let p = Modulus::new(101)?;
     let mut row = row_of(
         alloc,
+        &[(&[0, 1, 1], 5), (&[0, 1, 2], 7), (&[0, 1, 1], 96)],
         &p,
-        &[([0, 1, 1], 5), ([0, 1, 2], 7), ([0, 1, 1], 96)],
     )?;
-    assert!(rt; has_terms(&row, &[([0, 1, 2], 7)]));
-    row.add_term(&triangle(alloc, [0, 1, 1])?, 1, &p)?;
+    assert!(rt; has_terms(&row, &[(&[0, 1, 2], 7)]));
+    row.add_term(&integral(alloc, &[0, 1, 1])?, 1, &p)?;
     let copy = row.copy()?;
     let order = row.order();
     let mut terms = row.into_terms();
@@ -176,7 +148,7 @@ fn terms_give_the_row(rt: HostRuntime) -> Result<(), Fail> {
     assert!(rt; is_term_list(order, &terms));
     let again = Row::from_terms(order, terms);
     assert!(rt; again.equals(&copy));
-    assert!(rt; has_terms(&again, &[([0, 1, 2], 7), ([0, 1, 1], 1)]));
+    assert!(rt; has_terms(&again, &[(&[0, 1, 2], 7), (&[0, 1, 1], 1)]));
     Ok(())
 }
 
@@ -198,7 +170,7 @@ fn are(integrals: &[Integral], wanted: &[[i8; 3]]) -> bool {
 fn rows_are_copied_and_their_integrals_appended(rt: HostRuntime) -> Result<(), Fail> {
     let alloc = rt.alloc();
     let p = Modulus::new(101)?;
-    let rows = [row_of(alloc, &p, TOP)?, row_of(alloc, &p, SECOND)?];
+    let rows = [row_of(alloc, TOP, &p)?, row_of(alloc, SECOND, &p)?];
     let mut integrals = Vec::new(alloc);
     for row in &copies(alloc, &rows)? {
         row.push_integrals(&mut integrals)?;

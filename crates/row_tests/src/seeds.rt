@@ -2,11 +2,9 @@
 
 ghost use Rattle.std.specs.Prelude.{◌≡◌, ◌<◌, ◌≤◌, ◌^◌, IfSome};
 
-use integral_index::Order;
-use integral_index::Integral;
-use integral_index::ZeroSectors;
-use std::alloc::Global;
+use integral_index::{Integral, Order, ZeroSectors};
 use seed_sets::{SeedFault, Shape, Spec, list};
+use std::alloc::Global;
 use std::test::Fail;
 
 // The seeds of one spec of the first family, which has these zero sectors.

@@ -9,61 +9,13 @@ ghost use Rattle.sparse_row.specs.Row.{Row as RowValue, coefficient, Shows, IsRo
 ghost use Rattle.sector_forward.specs.Elimination.{IsRuleOf, AreApart};
 ghost use Rattle.back_substitute.specs.Substitution.{AreRules, IsRuleOutside, AreBelow};
 
+use crate::shared::{Terms, Wrong, are, rows_of};
 use back_substitute::{Substituted, substitute};
 use field_word::Modulus;
-use integral_index::{Integral, Order, Unit, is_index_list};
-use out_of_memory::OutOfMemory;
+use integral_index::{Integral, Order, Unit};
 use sparse_row::Row;
-use std::alloc::{AllocFailed, Global};
+use std::alloc::Global;
 use std::test::Fail;
-
-// What a helper of the tests may answer.
-#[derive(Debug, Drop)]
-enum Wrong {
-    Indices,
-    Conditions,
-    OutOfMemory,
-}
-
-impl From<OutOfMemory> for Wrong {
-    fn from(_refused: OutOfMemory) -> Wrong {
-        Wrong::OutOfMemory
-    }
-}
-
-impl<T: Drop> From<AllocFailed<T>> for Wrong {
-    fn from(_refused: AllocFailed<T>) -> Wrong {
-        Wrong::OutOfMemory
-    }
-}
-
-type Terms = &'static [(&'static [i8], u64)];
-
-fn row_of(alloc: Global, terms: &[(&[i8], u64)], modulus: &Modulus) -> Result<Row, Wrong>
-    ensures { IfOk result (λ row. IsRow modulus.now Standard row) }
-{
-    let _p = modulus.value();
-    let mut row = Row::new(alloc, Order::Standard);
-    for (indices, coefficient) in terms {
-        if !is_index_list(indices) {
-            return Err(Wrong::Indices);
-        }
-        let x = Integral::new(alloc, 0, indices)?;
-        row.add_term(&x, modulus.reduce(u128::from(*coefficient)), modulus)?;
-    }
-    Ok(row)
-}
-
-fn rows_of(alloc: Global, rows: &[Terms], modulus: &Modulus) -> Result<Vec<Row>, Wrong>
-    ensures { IfOk result (λ made. All (IsRow modulus.now Standard) made.items) }
-{
-    let mut made = Vec::new(alloc);
-    for terms in rows {
-        let row = row_of(alloc, terms, modulus)?;
-        made.push(row)?;
-    }
-    Ok(made)
-}
 
 // Whether no row shows the integral but the one at this place.
 fn is_shown_at_most_at(rows: &[Row], place: usize, x: &Integral) -> bool
@@ -180,19 +132,6 @@ fn substituted(
         return Err(Wrong::Conditions);
     }
     Ok(substitute(alloc, unit, rows, below, modulus)?)
-}
-
-// Whether the rows are these, one by one.
-fn are(alloc: Global, rows: &[Row], wanted: &[Terms], modulus: &Modulus) -> Result<bool, Wrong> {
-    if rows.len() != wanted.len() {
-        return Ok(false);
-    }
-    for i in 0..rows.len() {
-        if !rows[i].equals(&row_of(alloc, wanted[i], modulus)?) {
-            return Ok(false);
-        }
-    }
-    Ok(true)
 }
 
 // The top sector of the massless triangle at d = 7, s = 5: 67 * 21 * 2 is 87 modulo 101, and 81 * 21 * 2

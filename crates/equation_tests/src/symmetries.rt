@@ -3,47 +3,15 @@
 
 ghost use Rattle.std.specs.Prelude.{◌≡◌, ◌≤◌, IfOk};
 
-use symmetry_maps::{MapFault, Symmetry, check, equation};
+use crate::shared::{Wrong, has_terms, integral, momentum, point_of, rule, symmetric};
 use field_word::Modulus;
-use integral_index::{Integral, Order, ZeroSectors, is_index_list};
-use kinematics::{Momentum, Point, Rule, are_coefficients, are_wide, point, rules_fit};
-use out_of_memory::OutOfMemory;
-use propagators::{Denominator, denominators_fit, family};
+use integral_index::{Order, ZeroSectors};
+use kinematics::{Momentum, Point, Rule};
+use propagators::Denominator;
 use sparse_row::Row;
-use std::alloc::{AllocFailed, Global};
+use std::alloc::Global;
 use std::test::Fail;
-
-// What a helper of the tests may answer.
-#[derive(Debug, Drop)]
-enum Wrong {
-    Momentum,
-    Rules,
-    Point,
-    Denominators,
-    Basis,
-    Seed,
-    Map(MapFault),
-    OutOfMemory,
-}
-
-impl From<OutOfMemory> for Wrong {
-    fn from(_refused: OutOfMemory) -> Wrong {
-        Wrong::OutOfMemory
-    }
-}
-
-impl<T: Drop> From<AllocFailed<T>> for Wrong {
-    fn from(_refused: AllocFailed<T>) -> Wrong {
-        Wrong::OutOfMemory
-    }
-}
-
-fn momentum(alloc: Global, coefficients: &[i16]) -> Result<Momentum, Wrong> {
-    if !are_coefficients(coefficients) {
-        return Err(Wrong::Momentum);
-    }
-    Ok(Momentum::new(alloc, coefficients)?)
-}
+use symmetry_maps::{MapFault, Symmetry, equation};
 
 // The squares of momenta, the first `width` coefficients each, minus one squared mass.
 fn squares(
@@ -71,15 +39,6 @@ fn bilinear(alloc: Global, left: &[i16], right: &[i16]) -> Result<Denominator, W
     })
 }
 
-// The rule that the square of a sum of external momenta has this value.
-fn rule(alloc: Global, coefficients: &[i16], value: u64) -> Result<Rule, Wrong> {
-    Ok(Rule {
-        left: momentum(alloc, coefficients)?,
-        right: momentum(alloc, coefficients)?,
-        value,
-    })
-}
-
 fn rules(alloc: Global, squares: &[([i16; 3], u64)], width: usize) -> Result<Vec<Rule>, Wrong> {
     let mut rules = Vec::new(alloc);
     for square in squares {
@@ -91,24 +50,6 @@ fn rules(alloc: Global, squares: &[([i16; 3], u64)], width: usize) -> Result<Vec
     Ok(rules)
 }
 
-fn point_of(
-    alloc: Global,
-    rules: &[Rule],
-    externals: u32,
-    modulus: &Modulus,
-) -> Result<Point, Wrong>
-    requires { externals ≤ 6 }
-    ensures { IfOk result (λ point. point.modulus ≡ modulus.now) }
-{
-    if !rules_fit(rules, externals, modulus) {
-        return Err(Wrong::Rules);
-    }
-    match point(alloc, rules, externals, modulus) {
-        Ok(found) => Ok(found),
-        Err(_) => Err(Wrong::Point),
-    }
-}
-
 fn symmetry_of(
     alloc: Global,
     images: &[Momentum],
@@ -118,25 +59,8 @@ fn symmetry_of(
 ) -> Result<Symmetry, Wrong>
     requires { point.now.modulus ≡ modulus.now }
 {
-    if images.is_empty() || images.len() > 6 || denominators.len() > 20 {
-        return Err(Wrong::Denominators);
-    }
-    let loops = images.len() as u32;
-    let width = images.len() + point.externals() as usize;
-    let total = loops * (loops + 1) / 2 + loops * point.externals();
-    if denominators.len() != total as usize
-        || !denominators_fit(denominators, width, modulus)
-        || !are_wide(images, width)
-    {
-        return Err(Wrong::Denominators);
-    }
-    match family(alloc, loops, denominators, point, modulus) {
-        Ok(_basis) => match check(alloc, images, denominators, point, modulus) {
-            Ok(symmetry) => Ok(symmetry),
-            Err(fault) => Err(Wrong::Map(fault)),
-        },
-        Err(_) => Err(Wrong::Basis),
-    }
+    let (_basis, symmetry) = symmetric(alloc, images, denominators, point, modulus)?;
+    Ok(symmetry)
 }
 
 // The number of the denominator that an answer names as at fault, and 0 where it names none.
@@ -147,13 +71,6 @@ fn fault_of(answer: Result<Symmetry, Wrong>) -> u32 {
     }
 }
 
-fn integral(alloc: Global, indices: &[i8]) -> Result<Integral, Wrong> {
-    if !is_index_list(indices) {
-        return Err(Wrong::Seed);
-    }
-    Ok(Integral::new(alloc, 4, indices)?)
-}
-
 fn equation_of(
     alloc: Global,
     symmetry: &Symmetry,
@@ -162,7 +79,7 @@ fn equation_of(
     modulus: &Modulus,
 ) -> Result<Row, Wrong> {
     let zeros = ZeroSectors::new(alloc, zeros)?;
-    let seed = integral(alloc, seed)?;
+    let seed = integral(alloc, 4, seed)?;
     if seed.indices().len() != symmetry.places().len() {
         return Err(Wrong::Seed);
     }
@@ -179,16 +96,7 @@ fn gives(
     terms: &[(&[i8], u64)],
 ) -> Result<bool, Wrong> {
     let row = equation_of(alloc, symmetry, seed, zeros, modulus)?;
-    let found = row.terms();
-    if found.len() != terms.len() {
-        return Ok(false);
-    }
-    for k in 0..found.len() {
-        if found[k].integral != integral(alloc, terms[k].0)? || found[k].coefficient != terms[k].1 {
-            return Ok(false);
-        }
-    }
-    Ok(true)
+    Ok(has_terms(&row, 4, terms))
 }
 
 // The map of the bubble by this image of k1: k1 and k1 + p1, massless, with p1 p1 = 5.
