@@ -7,7 +7,7 @@ ghost use Rattle.sparse_row.specs.Row.{IsRow};
 use crate::shared::{Wrong, integral};
 use field_word::Modulus;
 use integral_index::{Integral, Order, ZeroSectors, is_index_list};
-use kinematics::Name;
+use text_tokens::Name;
 use kira_outside::MemorySink;
 use out_of_memory::OutOfMemory;
 use reduction_core::reduce_plain;

@@ -1,7 +1,9 @@
 //! What the file of integral families says.
 
-use kinematics::{Expression, Momentum, Name};
+use momentum_sums::Momentum;
+use rational_expressions::Expression;
 use sqlite_items::Items;
+use text_tokens::Name;
 
 /// The momenta of a propagator, over the loop momenta and then the independent external momenta.
 #[derive(Debug, Drop)]

@@ -8,10 +8,10 @@ ghost use Rattle.family_schema.specs.FamilyFile as spec;
 ghost use Rattle.family_schema.specs.FamilyFile.{ReadsLoops};
 
 use input_schema::{File, InputKind, SchemaError, fault, fresh, items, name};
-use kinematics::Name;
 use kinematics_schema::Kinematics;
 use sqlite_items::Items;
 use std::alloc::Global;
+use text_tokens::Name;
 use yaml_text::Tree;
 
 /// The name and the loop momenta of a family.

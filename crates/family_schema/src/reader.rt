@@ -16,10 +16,10 @@ use crate::scope::{Scope, scope_of};
 use crate::sectors::{read_top, read_zero};
 use crate::symmetries::read_symmetries;
 use input_schema::{File, InputKind, Key, SchemaError, fault, fields, items, name, needed};
-use kinematics::Name;
 use kinematics_schema::Kinematics;
 use sqlite_items::Items;
 use std::alloc::Global;
+use text_tokens::Name;
 use yaml_text::{Pair, Tree};
 
 /// Tests that no earlier family has this name.

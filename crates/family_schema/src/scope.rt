@@ -1,17 +1,18 @@
 //! The momenta that the texts of a family may name.
 
 ghost use Rattle.std.specs.Prelude.{◌≡◌, ◌<◌, ◌≤◌, ◌+◌, ◌++◌, length, replicate, pos, IfOk, IfErr, IfSome};
-ghost use Rattle.kinematics.specs.Momenta.{IsCoefficient};
+ghost use Rattle.momentum_sums.specs.Momenta.{IsCoefficient};
 ghost use Rattle.input_schema.specs.Readings.{Gives};
 ghost use Rattle.input_schema.specs.declared.faults.SchemaError.TheVariants as schema_error;
 ghost use Rattle.kinematics_schema.specs.Independent.{independents, HasCounts};
 ghost use Rattle.family_schema.specs.Scope as spec;
 
 use input_schema::{SchemaError, joined};
-use kinematics::{Momentum, Name};
 use kinematics_schema::{Conserved, Kinematics};
+use momentum_sums::Momentum;
 use sqlite_items::Items;
 use std::alloc::Global;
+use text_tokens::Name;
 
 /// The names that the texts of a family may use: the loop momenta and then all external momenta, of which
 /// one may be conserved, and the invariants.

@@ -13,10 +13,11 @@ ghost use Rattle.family_schema.specs.Sound.{HasImages};
 use crate::content::Symmetry;
 use crate::scope::Scope;
 use input_schema::{File, Key, SchemaError, fields, items, optional};
-use kinematics::{Momentum, Name};
 use kinematics_schema::read_independent;
+use momentum_sums::Momentum;
 use sqlite_items::Items;
 use std::alloc::Global;
+use text_tokens::Name;
 use yaml_text::{Pair, Tree};
 
 /// The momentum at this place by itself, among so many.

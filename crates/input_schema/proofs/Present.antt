@@ -4,9 +4,9 @@ use Rattle.yaml_text.specs.declared.tree.Tree.{Tree}
 use Rattle.yaml_text.specs.declared.tree.Value.TheOpen.{Value-F}
 use Rattle.yaml_text.specs.declared.tree.Pair.{Pair}
 use Rattle.yaml_text.specs.Lines.{Bytes}
-use Rattle.kinematics.specs.declared.faults.TextKind.{TextKind}
-use Rattle.kinematics.specs.declared.faults.TextKind.TheVariants as text_kind
-use Rattle.kinematics.specs.Names.{is_name}
+use Rattle.text_tokens.specs.declared.faults.TextKind.{TextKind}
+use Rattle.text_tokens.specs.declared.faults.TextKind.TheVariants as text_kind
+use Rattle.text_tokens.specs.Names.{is_name}
 use Rattle.input_schema.specs.declared.faults.File.{File}
 use Rattle.input_schema.specs.declared.faults.InputFault.{InputFault}
 use Rattle.input_schema.specs.declared.faults.InputKind.{InputKind}

@@ -4,7 +4,7 @@ use mir.Syntax.{w16}
 use Rattle.std.specs.Int.RustNames.{unsigned_abs}
 use Rattle.std.proofs.Math.Nat.{mul-le-mul}
 use Rattle.std.proofs.lemmas.Int.{ints, unsigned_abs-mul}
-use Rattle.kinematics.specs.Momenta.{IsCoefficient}
+use Rattle.momentum_sums.specs.Momenta.{IsCoefficient}
 
 size_of_coefficient : (a : ℤ) → IsCoefficient a → unsigned_abs a ≤ 1000
 size_of_coefficient (pos n) h = let high = h.1 in omega (arith, ints)

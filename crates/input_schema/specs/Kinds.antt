@@ -1,8 +1,8 @@
 -- The texts of the kinds of fault, as messages show them. The project's own.
 use Rattle.std.specs.Prelude.{ℕ, List, codes}
 use Rattle.yaml_text.specs.Kinds as yaml
-use Rattle.kinematics.specs.declared.faults.TextKind.{TextKind}
-use Rattle.kinematics.specs.declared.faults.TextKind.TheVariants as text_kind
+use Rattle.text_tokens.specs.declared.faults.TextKind.{TextKind}
+use Rattle.text_tokens.specs.declared.faults.TextKind.TheVariants as text_kind
 use Rattle.input_schema.specs.declared.faults.InputKind.{InputKind}
 use Rattle.input_schema.specs.declared.faults.InputKind.TheVariants.{Missing, TooLong, Yaml, Shape, UnknownKey, MissingKey, BadName, ReservedName, DuplicateName, UnknownName, BadNumber, NumberTooWide, OutOfRange, BadExpression, BadMomentum, TooDeep, WrongCount, SectorOutside, RunFlag, ManyJobs, NoValue, BadOverride, BadLine, BadModulus, NotAPermutation}
 

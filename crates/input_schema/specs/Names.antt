@@ -3,8 +3,8 @@ use Rattle.std.specs.Prelude.{ℕ, Bool, ◌||◌, if◌then◌else◌, List, Ok
 use Rattle.std.specs.Str.{bytes_eq}
 use Rattle.yaml_text.specs.declared.tree.Tree.{Tree}
 use Rattle.yaml_text.specs.Lines.{Bytes}
-use Rattle.kinematics.specs.Names.{is_name, is_among}
-use Rattle.kinematics.specs.Values.{place_of}
+use Rattle.text_tokens.specs.Names.{is_name, is_among}
+use Rattle.rational_expressions.specs.Values.{place_of}
 use Rattle.input_schema.specs.declared.faults.File.{File}
 use Rattle.input_schema.specs.declared.faults.InputKind.TheVariants.{BadName, ReservedName, DuplicateName, UnknownName}
 use Rattle.input_schema.specs.Readings.{Outcome, refuse, ◌>>=◌}

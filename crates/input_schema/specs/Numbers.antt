@@ -3,7 +3,7 @@ use Rattle.std.specs.Prelude.{ℕ, ◌^◌, Bool, false, if◌then◌else◌, �
 use Rattle.std.specs.List.{list_all}
 use Rattle.yaml_text.specs.declared.tree.Tree.{Tree}
 use Rattle.yaml_text.specs.Lines.{Bytes}
-use Rattle.kinematics.specs.Tokens.{is_digit, number_of}
+use Rattle.text_tokens.specs.Tokens.{is_digit, number_of}
 use Rattle.input_schema.specs.declared.faults.File.{File}
 use Rattle.input_schema.specs.declared.faults.InputKind.TheVariants.{BadNumber, NumberTooWide, OutOfRange}
 use Rattle.input_schema.specs.Readings.{Outcome, refuse, ◌>>=◌}

@@ -2,10 +2,10 @@
 use Rattle.std.specs.Prelude.{◌≡◌, ℕ, ℤ, List, Ok, Err}
 use Rattle.yaml_text.specs.declared.tree.Tree.{Tree}
 use Rattle.yaml_text.specs.Lines.{Bytes}
-use Rattle.kinematics.specs.declared.faults.TextKind.{TextKind}
-use Rattle.kinematics.specs.Momenta.{IsMomentum, IsMomentumFault}
-use Rattle.kinematics.specs.Values.{IsValue, IsValueFault}
-use Rattle.kinematics.specs.Trees as trees
+use Rattle.text_tokens.specs.declared.faults.TextKind.{TextKind}
+use Rattle.momentum_sums.specs.Momenta.{IsMomentum, IsMomentumFault}
+use Rattle.rational_expressions.specs.Values.{IsValue, IsValueFault}
+use Rattle.rational_expressions.specs.Trees as trees
 use Rattle.input_schema.specs.declared.faults.File.{File}
 use Rattle.input_schema.specs.declared.faults.InputFault.{InputFault}
 use Rattle.input_schema.specs.Kinds.{kind_of}

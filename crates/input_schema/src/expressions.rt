@@ -6,8 +6,10 @@ ghost use Rattle.input_schema.specs.Readings.{Answers};
 
 use crate::faults::{File, InputKind, SchemaError, fault};
 use crate::nodes::scalar;
-use kinematics::{Expression, Momentum, Name, TextError, read_momentum, read_value};
+use momentum_sums::{Momentum, read_momentum};
+use rational_expressions::{Expression, read_value};
 use std::alloc::Global;
+use text_tokens::{Name, TextError};
 use yaml_text::Tree;
 
 /// The momentum that a text on this line writes over these names.

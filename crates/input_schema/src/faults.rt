@@ -4,10 +4,10 @@ ghost use Rattle.std.specs.Prelude.{◌≡◌};
 ghost use Rattle.input_schema.specs.Kinds.{text_of, kind_of};
 ghost use Rattle.input_schema.specs.declared.faults.SchemaError.TheVariants as schema_error;
 
-use kinematics::TextKind;
 use out_of_memory::OutOfMemory;
 use std::alloc::{AllocError, AllocFailed};
 use std::fmt;
+use text_tokens::TextKind;
 use yaml_text::YamlKind;
 
 /// The files that a job is read from. The project's own.

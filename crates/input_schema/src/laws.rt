@@ -8,5 +8,6 @@ pub fn readings_are_single()
     ensures momenta { MomentaAreSingle }
     ensures values { ValuesAreSingle }
 {
-    kinematics::readings_are_unique();
+    momentum_sums::momentum_readings_are_unique();
+    rational_expressions::value_readings_are_unique();
 }

@@ -1,12 +1,12 @@
 //! The replacement of the conserved momentum.
 
 ghost use Rattle.std.specs.Prelude.{◌≡◌, ◌<◌, ◌+◌, ◌+ℤ◌, ◌*ℤ◌, ◌≤ℤ◌, pos, negsuc, length, true, false, All, IfOk, IfErr, IfSome, MatchOption};
-ghost use Rattle.kinematics.specs.Momenta.{IsCoefficient};
+ghost use Rattle.momentum_sums.specs.Momenta.{IsCoefficient};
 ghost use Rattle.input_schema.specs.Momenta as spec;
 ghost use Rattle.input_schema.specs.Readings.{Gives, Is, Refuses};
 
 use crate::faults::{File, InputKind, SchemaError, fault};
-use kinematics::Momentum;
+use momentum_sums::Momentum;
 use std::alloc::Global;
 
 /// The product of two coefficients.

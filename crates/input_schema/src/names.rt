@@ -1,16 +1,16 @@
 //! Names that are declared, and references to them.
 
 ghost use Rattle.std.specs.Prelude.{◌≡◌, ◌<◌, ◌++◌, MatchOption, IfOk, OnOk, IfErr, IfSome, length, true, false};
-ghost use Rattle.kinematics.specs.Names.{is_among};
-ghost use Rattle.kinematics.specs.Values.{place_of};
+ghost use Rattle.text_tokens.specs.Names.{is_among};
+ghost use Rattle.rational_expressions.specs.Values.{place_of};
 ghost use Rattle.input_schema.specs.Names as spec;
 ghost use Rattle.input_schema.specs.declared.faults.SchemaError.TheVariants as schema_error;
 ghost use Rattle.input_schema.specs.Readings.{Gives};
 
 use crate::faults::{File, InputKind, SchemaError, fault};
 use crate::nodes::scalar;
-use kinematics::Name;
 use std::alloc::Global;
+use text_tokens::Name;
 use yaml_text::Tree;
 
 /// The place of the first of these names with this text, counted from 0, if there is one.

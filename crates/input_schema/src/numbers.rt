@@ -2,13 +2,13 @@
 
 ghost use Rattle.std.specs.Prelude.{◌≡◌};
 ghost use Rattle.std.specs.List.{list_all};
-ghost use Rattle.kinematics.specs.Tokens.{is_digit};
+ghost use Rattle.text_tokens.specs.Tokens.{is_digit};
 ghost use Rattle.input_schema.specs.Numbers as spec;
 ghost use Rattle.input_schema.specs.Readings.{Gives};
 
 use crate::faults::{File, InputKind, SchemaError, fault};
 use crate::nodes::scalar;
-use kinematics::{is_digit, number_value};
+use text_tokens::{is_digit, number_value};
 use yaml_text::Tree;
 
 fn are_digits(text: &[u8]) -> bool

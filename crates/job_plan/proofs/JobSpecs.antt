@@ -9,8 +9,8 @@ use Rattle.std.proofs.lemmas.List.Sums.{AllPass-from_list_all}
 use Rattle.yaml_text.specs.declared.tree.Tree.{Tree}
 use Rattle.yaml_text.specs.declared.tree.Pair.{Pair}
 use Rattle.yaml_text.specs.Lines.{Bytes}
-use Rattle.kinematics.specs.Names.{is_name, is_among}
-use Rattle.kinematics.specs.Values.{place_of}
+use Rattle.text_tokens.specs.Names.{is_name, is_among}
+use Rattle.rational_expressions.specs.Values.{place_of}
 use Rattle.seed_sets.specs.declared.Shape.{Shape}
 use Rattle.seed_sets.specs.Seeds.{IsFitting, IsShapeOf}
 use Rattle.input_schema.specs.declared.faults.File.TheVariants.{Jobs}

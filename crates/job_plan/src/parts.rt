@@ -8,11 +8,11 @@ ghost use Rattle.job_plan.specs.Readings as spec;
 use family_schema::Family;
 use input_schema::{SchemaError, joined};
 use job_schema::Frame;
-use kinematics::Name;
 use kinematics_schema::Kinematics;
 use out_of_memory::OutOfMemory;
 use sqlite_items::Items;
 use std::alloc::Global;
+use text_tokens::Name;
 
 /// The name of the dimension.
 fn dimension(alloc: Global) -> Result<Name, SchemaError>

@@ -2,13 +2,13 @@
 
 use field_word::Modulus;
 use integral_index::{Integral, Order, ZeroSectors};
-use kinematics::Name;
 use out_of_memory::OutOfMemory;
 use propagators::Basis;
 use sparse_row::Row;
 use sqlite_items::Items;
 use std::marker::Model;
 use symmetry_maps::Symmetry;
+use text_tokens::Name;
 
 /// What a job says at its numeric point, as its equations and its table are made from it: the modulus, the
 /// order of the integrals, the dimension, the name, the zero sectors, the denominators and the symmetries of

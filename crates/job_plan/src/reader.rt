@@ -18,10 +18,10 @@ use family_schema::Family;
 use input_schema::SchemaError;
 use job_point::PlanError;
 use job_schema::{Job, NumericPoint, Override, PointInput, override_point, read_jobs};
-use kinematics::Name;
 use kinematics_schema::Kinematics;
 use sqlite_items::Items;
 use std::alloc::Global;
+use text_tokens::Name;
 use yaml_text::Tree;
 
 /// What the file of jobs says, where the job has these families and parameters.

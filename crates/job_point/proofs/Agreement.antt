@@ -6,7 +6,7 @@ use Rattle.matrix_elimination.specs.Vectors.{HasLeadingOne}
 use Rattle.kinematics.specs.Laws.{HasOneOutcome}
 use Rattle.kinematics.specs.RuleLaws.{ClashHasNoTable}
 use Rattle.kinematics.specs.Points.{Point}
-use Rattle.kinematics.specs.Trees.{Tree}
+use Rattle.rational_expressions.specs.Trees.{Tree}
 use Rattle.kinematics.specs.declared.rules.Rule.{Rule}
 use Rattle.propagators.specs.declared.denominators.Denominator.{Denominator}
 use Rattle.propagators.specs.Basis.{Basis, forms_of}

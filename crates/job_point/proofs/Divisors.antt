@@ -10,10 +10,10 @@ use Rattle.std.proofs.lemmas.List.{get_or_past}
 use Rattle.std.proofs.lemmas.Nat.Gcd.{le_of_dvd}
 use Rattle.std.proofs.lemmas.List.Elements.{All-push, All-append, All-take, All-drop}
 use Rattle.matrix_elimination.specs.Fault.{IsProperDivisor}
-use Rattle.kinematics.specs.declared.faults.ValueFault.TheVariants as value_fault
+use Rattle.rational_expressions.specs.declared.faults.ValueFault.TheVariants as value_fault
 use Rattle.kinematics.specs.Points.{Point}
-use Rattle.kinematics.specs.Trees.{Tree, number, place, negative, sum, difference, product, quotient, power}
-use Rattle.kinematics.specs.Evaluation.{Outcome, After, IsQuotient, HasOutcome}
+use Rattle.rational_expressions.specs.Trees.{Tree, number, place, negative, sum, difference, product, quotient, power}
+use Rattle.rational_expressions.specs.Evaluation.{Outcome, After, IsQuotient, HasOutcome}
 use Rattle.input_schema.specs.declared.faults.File.{File}
 use Rattle.kinematics_schema.specs.declared.content.Kinematics.{Kinematics}
 use Rattle.family_schema.specs.declared.content.Family.{Family}

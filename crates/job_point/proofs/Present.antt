@@ -1,10 +1,10 @@
 -- No step of the numeric point says that a file is missing.
 use Rattle.std.proofs.Common.{◌≡◌, ℕ, Option, List, [], ◌∷◌, ◌++◌, Result, Ok, Err, sym, subst}
-use Rattle.kinematics.specs.declared.faults.ValueFault.TheVariants as value_fault
+use Rattle.rational_expressions.specs.declared.faults.ValueFault.TheVariants as value_fault
 use Rattle.kinematics.specs.declared.rules.Rule.{Rule}
-use Rattle.kinematics.specs.Evaluation.{Outcome}
+use Rattle.rational_expressions.specs.Evaluation.{Outcome}
 use Rattle.kinematics.specs.Points.{Point}
-use Rattle.kinematics.specs.Trees.{Tree}
+use Rattle.rational_expressions.specs.Trees.{Tree}
 use Rattle.propagators.specs.declared.denominators.Denominator.{Denominator}
 use Rattle.propagators.specs.Basis.{Basis}
 use Rattle.input_schema.specs.declared.faults.File.{File}

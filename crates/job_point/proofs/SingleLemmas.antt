@@ -3,8 +3,8 @@ use Rattle.std.proofs.Common.{◌≡◌, ℕ, ◌<◌, List, [], ◌∷◌, leng
 use Rattle.kinematics.specs.declared.rules.Rule.{Rule}
 use Rattle.kinematics.specs.Laws.{HasOneOutcome}
 use Rattle.kinematics.specs.Points.{Point}
-use Rattle.kinematics.specs.Trees.{Tree}
-use Rattle.kinematics.specs.Evaluation.{Outcome}
+use Rattle.rational_expressions.specs.Trees.{Tree}
+use Rattle.rational_expressions.specs.Evaluation.{Outcome}
 use Rattle.input_schema.specs.declared.faults.File.{File}
 use Rattle.kinematics_schema.specs.declared.content.Kinematics.{Kinematics}
 use Rattle.family_schema.specs.declared.content.Symmetry.{Symmetry as Map}

@@ -1,10 +1,10 @@
 -- The values of the numeric point, and of expressions over the invariants. The project's own.
 use Rattle.std.specs.Prelude.{◌≡◌, ℕ, if◌then◌else◌, Option, Some, None, List, [], ◌∷◌, Ok, Err}
 use Rattle.std.specs.List.{insert}
-use Rattle.kinematics.specs.declared.faults.ValueFault.{ValueFault}
-use Rattle.kinematics.specs.declared.faults.ValueFault.TheVariants as value_fault
-use Rattle.kinematics.specs.Trees.{Tree, number, negative, quotient}
-use Rattle.kinematics.specs.Evaluation.{Outcome, HasOutcome}
+use Rattle.rational_expressions.specs.declared.faults.ValueFault.{ValueFault}
+use Rattle.rational_expressions.specs.declared.faults.ValueFault.TheVariants as value_fault
+use Rattle.rational_expressions.specs.Trees.{Tree, number, negative, quotient}
+use Rattle.rational_expressions.specs.Evaluation.{Outcome, HasOutcome}
 use Rattle.input_schema.specs.declared.faults.File.{File}
 use Rattle.job_schema.specs.declared.ratios.Divisor.{Divisor}
 use Rattle.job_schema.specs.declared.ratios.Ratio.{Ratio}

@@ -6,10 +6,11 @@ ghost use Rattle.job_point.specs.Point as point;
 
 use field_word::Composite;
 use input_schema::{File, InputFault, InputKind};
-use kinematics::{PointFault, ValueFault};
+use kinematics::PointFault;
 use matrix_elimination::Vector;
 use out_of_memory::OutOfMemory;
 use propagators::BasisFault;
+use rational_expressions::ValueFault;
 use std::alloc::{AllocError, AllocFailed};
 use std::fmt;
 use symmetry_maps::MapFault;

@@ -7,7 +7,7 @@ ghost use Rattle.job_point.specs.Laws.{PointsAreSingle, PointsAgree, PointsNameD
 pub fn points_are_single()
     ensures { PointsAreSingle }
 {
-    kinematics::values_are_unique();
+    rational_expressions::values_are_unique();
     symmetry_maps::laws::symmetry_is_unique();
 }
 
@@ -19,7 +19,7 @@ pub fn points_agree()
     ensures agree { PointsAgree }
     ensures divisors { PointsNameDivisors }
 {
-    kinematics::values_are_unique();
+    rational_expressions::values_are_unique();
     kinematics::refused_rules_have_no_point();
     symmetry_maps::laws::symmetry_is_unique();
     symmetry_maps::laws::fault_refutes_symmetry();

@@ -1,7 +1,7 @@
 //! The values of the numeric point, taken modulo the prime.
 
 ghost use Rattle.std.specs.Prelude.{◌≡◌, ◌<◌, ◌%◌, [], Ok, IfOk};
-ghost use Rattle.kinematics.specs.Evaluation.{IsQuotient, HasOutcome};
+ghost use Rattle.rational_expressions.specs.Evaluation.{IsQuotient, HasOutcome};
 ghost use Rattle.job_point.specs.Steps.{Meets};
 ghost use Rattle.job_point.specs.Values.{numerator_tree, ratio_tree, IsSettingAt};
 
@@ -9,7 +9,7 @@ use crate::faults::PlanError;
 use crate::values::told;
 use field_word::Modulus;
 use job_schema::{Divisor, Ratio, Setting};
-use kinematics::ValueFault;
+use rational_expressions::ValueFault;
 
 /// The residue of the number before the slash, with its sign.
 fn numerator(ratio: &Ratio, modulus: &Modulus) -> u64

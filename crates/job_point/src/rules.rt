@@ -11,8 +11,9 @@ use crate::faults::{PlanError, point_error};
 use crate::values::value_at;
 use field_word::Modulus;
 use input_schema::File;
-use kinematics::{Momentum, Point, Rule, point, refused_rules_have_no_point};
+use kinematics::{Point, Rule, point, refused_rules_have_no_point};
 use kinematics_schema::Kinematics;
+use momentum_sums::Momentum;
 use sqlite_items::Items;
 use std::alloc::Global;
 

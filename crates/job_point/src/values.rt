@@ -1,7 +1,7 @@
 //! The values of the dimension and of the invariants, and of expressions over the invariants.
 
 ghost use Rattle.std.specs.Prelude.{◌≡◌, ◌<◌, ◌≤◌, length, All, IfOk, IfErr, IfSome};
-ghost use Rattle.kinematics.specs.Evaluation.{HasOutcome};
+ghost use Rattle.rational_expressions.specs.Evaluation.{HasOutcome};
 ghost use Rattle.job_point.specs.Steps.{Meets, Each};
 ghost use Rattle.job_point.specs.Values as spec;
 ghost use Rattle.job_point.specs.Values.{IsValueAt, IsSettingAt, AreSettingsAt, AreValuesAt};
@@ -12,7 +12,7 @@ use crate::ratios::setting_value;
 use field_word::Modulus;
 use input_schema::File;
 use job_schema::Setting;
-use kinematics::{Expression, ValueFault};
+use rational_expressions::{Expression, ValueFault};
 use sqlite_items::Items;
 use std::alloc::Global;
 

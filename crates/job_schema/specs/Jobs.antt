@@ -6,8 +6,8 @@ use Rattle.std.specs.Str.{bytes_eq}
 use Rattle.yaml_text.specs.declared.tree.Tree.{Tree}
 use Rattle.yaml_text.specs.declared.tree.Pair.{Pair}
 use Rattle.yaml_text.specs.Lines.{Bytes}
-use Rattle.kinematics.specs.Names.{is_among}
-use Rattle.kinematics.specs.Values.{place_of}
+use Rattle.text_tokens.specs.Names.{is_among}
+use Rattle.rational_expressions.specs.Values.{place_of}
 use Rattle.seed_sets.specs.declared.Spec.{Spec}
 use Rattle.input_schema.specs.declared.faults.File.TheVariants.{Words, Jobs}
 use Rattle.input_schema.specs.declared.faults.InputKind.TheVariants.{ManyJobs, NoValue, BadOverride, UnknownName, DuplicateName}

@@ -3,8 +3,8 @@ use Rattle.std.specs.Prelude.{ℕ, ◌+◌, Bool, not, ◌||◌, if◌then◌els
 use Rattle.std.specs.List.{list_any, prefix_len}
 use Rattle.std.specs.Str.{bytes_eq}
 use Rattle.yaml_text.specs.Lines.{Bytes}
-use Rattle.kinematics.specs.Names.{is_among}
-use Rattle.kinematics.specs.Values.{place_of}
+use Rattle.text_tokens.specs.Names.{is_among}
+use Rattle.rational_expressions.specs.Values.{place_of}
 use Rattle.input_schema.specs.declared.faults.File.TheVariants.{Words, Jobs}
 use Rattle.input_schema.specs.declared.faults.InputKind.TheVariants.{NoValue, BadOverride, UnknownName, DuplicateName}
 use Rattle.input_schema.specs.Readings.{Outcome, refuse, ◌>>=◌, each}

@@ -2,7 +2,7 @@
 use Rattle.std.specs.Prelude.{ℕ, ◌+◌, ◌-◌, ◌^◌, ◌%◌, Bool, true, false, if◌then◌else◌, ◌&&◌, ◌==◌, nat_le, nat_lt, List, [], ◌∷◌, length, take, drop, Option, Some, None, Ok}
 use Rattle.std.specs.List.{prefix_len}
 use Rattle.yaml_text.specs.Lines.{Bytes}
-use Rattle.kinematics.specs.Tokens.{is_digit}
+use Rattle.text_tokens.specs.Tokens.{is_digit}
 use Rattle.input_schema.specs.declared.faults.File.{File}
 use Rattle.input_schema.specs.declared.faults.InputKind.TheVariants.{BadNumber, BadModulus}
 use Rattle.input_schema.specs.Readings.{Outcome, refuse, ◌>>=◌}

@@ -14,11 +14,11 @@ use input_schema::{
     File, InputKind, Key, SchemaError, fault, fields, items, needed, number, optional, reference,
     wide_number,
 };
-use kinematics::Name;
 use out_of_memory::OutOfMemory;
 use seed_sets::Spec;
 use sqlite_items::Items;
 use std::alloc::Global;
+use text_tokens::Name;
 use yaml_text::{Pair, Tree};
 
 /// An item of what a job seeds or selects: all pairs of its families and its sectors, within its bounds.

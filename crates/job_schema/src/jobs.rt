@@ -12,10 +12,10 @@ use crate::selections::{Selection, read_selection};
 use input_schema::{
     File, InputKind, Key, SchemaError, fault, fields, flag, items, needed, optional,
 };
-use kinematics::Name;
 use seed_sets::Spec;
 use sqlite_items::Items;
 use std::alloc::Global;
+use text_tokens::Name;
 use yaml_text::{Pair, Tree};
 
 /// A job: what is reduced, what is selected, and at which point. The keys follow Kira, arXiv:1705.05610.

@@ -1,8 +1,8 @@
 //! The words that override values of the numeric point, and the point that comes of it.
 
 ghost use Rattle.std.specs.Prelude.{◌≡◌, ◌<◌, ◌≤◌, ◌^◌, [], MatchOption, IfOk, IfSome, length, true, false};
-ghost use Rattle.kinematics.specs.Names.{is_among};
-ghost use Rattle.kinematics.specs.Values.{place_of};
+ghost use Rattle.text_tokens.specs.Names.{is_among};
+ghost use Rattle.rational_expressions.specs.Values.{place_of};
 ghost use Rattle.input_schema.specs.Readings.{Gives};
 ghost use Rattle.job_schema.specs.Overrides as spec;
 
@@ -10,11 +10,11 @@ use crate::points::{NumericPoint, PointInput, Setting};
 use crate::ratios::{read_prime, read_ratio};
 use field_word::Modulus;
 use input_schema::{File, InputKind, SchemaError, fault, place_among};
-use kinematics::Name;
 use out_of_memory::OutOfMemory;
 use sqlite_items::Items;
 use std::alloc::Global;
 use std::marker::Model;
+use text_tokens::Name;
 
 /// A word that gives a value to a parameter, NAME=VALUE, with its place among all words. Contracts see
 /// the place and the bytes, of which there are fewer than 2^31.

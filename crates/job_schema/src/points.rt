@@ -8,10 +8,10 @@ ghost use Rattle.job_schema.specs.Jobs as spec;
 use crate::ratios::{Ratio, read_prime, read_ratio};
 use field_word::Modulus;
 use input_schema::{File, Key, SchemaError, fields, optional, scalar};
-use kinematics::Name;
 use out_of_memory::OutOfMemory;
 use sqlite_items::Items;
 use std::alloc::Global;
+use text_tokens::Name;
 use yaml_text::{Pair, Tree};
 
 /// A value of a parameter, and where it is written: a division by zero in it is told there.

@@ -8,7 +8,7 @@ use field_word::Modulus;
 use input_schema::{
     File, InputKind, SchemaError, fault, is_negative, is_number, unsigned, written_number,
 };
-use kinematics::is_digit;
+use text_tokens::is_digit;
 
 /// A divisor, and the offset of its slash in the text.
 #[derive(Clone, Copy, Debug, PartialEq, Eq, Drop)]

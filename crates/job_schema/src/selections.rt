@@ -8,10 +8,10 @@ ghost use Rattle.job_schema.specs.Jobs as spec;
 use crate::frames::Frame;
 use crate::groups::specs;
 use input_schema::{File, Key, SchemaError, fields, items, optional, pair, reference, scalar};
-use kinematics::Name;
 use seed_sets::Spec;
 use sqlite_items::Items;
 use std::alloc::Global;
+use text_tokens::Name;
 use yaml_text::{Pair, Text, Tree};
 
 /// A file with integrals of a family to be selected. The project's own.

@@ -3,12 +3,12 @@
 ghost use Rattle.std.specs.Prelude.{◌≡◌, ◌↔◌, ◌≤◌, All, IsTrue, IfOk, IfErr};
 ghost use Rattle.kinematics.specs.Rules.{IsRule, IsPointOf, HasPointCause};
 
-use crate::momenta::Momentum;
 use crate::points::Point;
 use crate::product_places::product_count;
 use crate::rule_rows::{rule_rows, rule_values};
 use field_word::{Composite, Modulus};
 use matrix_elimination::{SystemFault, Vector, solve};
+use momentum_sums::Momentum;
 use out_of_memory::OutOfMemory;
 use std::alloc::Global;
 use thiserror::Error;

@@ -4,9 +4,11 @@ ghost use Rattle.std.specs.Prelude.{◌≡◌, ◌<◌, length, remove, IfOk, If
 ghost use Rattle.input_schema.specs.declared.faults.SchemaError.TheVariants as schema_error;
 
 use input_schema::{SchemaError, joined};
-use kinematics::{Expression, Momentum, Name};
+use momentum_sums::Momentum;
+use rational_expressions::Expression;
 use sqlite_items::Items;
 use std::alloc::Global;
+use text_tokens::Name;
 
 /// The external momentum that is a sum of the others.
 #[derive(Debug, Drop)]

@@ -8,9 +8,9 @@ ghost use Rattle.kinematics_schema.specs.KinematicsFile.{ReadsNames, ReadsConser
 
 use crate::content::{Conserved, without_place};
 use input_schema::{File, SchemaError, items, momentum, new_name, optional, pair, reference};
-use kinematics::Name;
 use sqlite_items::Items;
 use std::alloc::Global;
+use text_tokens::Name;
 use yaml_text::{Pair, Tree};
 
 /// All external momenta, and the one that is a sum of the others.

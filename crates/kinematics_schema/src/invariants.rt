@@ -7,9 +7,9 @@ ghost use Rattle.kinematics_schema.specs.KinematicsFile as spec;
 ghost use Rattle.kinematics_schema.specs.KinematicsFile.{ReadsInvariants, ReadsSymbol};
 
 use input_schema::{File, SchemaError, fresh, items, name, number, optional, pair, reference};
-use kinematics::Name;
 use sqlite_items::Items;
 use std::alloc::Global;
+use text_tokens::Name;
 use yaml_text::{Pair, Tree};
 
 /// An invariant, which is none of the names that are declared, and a number that means nothing.

@@ -7,8 +7,9 @@ ghost use Rattle.kinematics_schema.specs.Independent.{independents, HasCounts, R
 
 use crate::content::Conserved;
 use input_schema::{File, SchemaError, momentum, replaced};
-use kinematics::{Momentum, Name};
+use momentum_sums::Momentum;
 use std::alloc::Global;
+use text_tokens::Name;
 use yaml_text::Tree;
 
 /// A momentum over all momenta as one over the independent ones: the conserved one is replaced by its

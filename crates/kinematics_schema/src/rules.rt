@@ -11,9 +11,9 @@ use crate::content::Rule;
 use crate::externals::Externals;
 use crate::momenta::read_independent;
 use input_schema::{File, SchemaError, items, optional, pair, value};
-use kinematics::Name;
 use sqlite_items::Items;
 use std::alloc::Global;
+use text_tokens::Name;
 use yaml_text::{Pair, Tree};
 
 /// A rule: two momenta, and the value of their product.

@@ -3,7 +3,7 @@
 use Rattle.std.specs.Prelude.{ℕ, ℤ, pos, neg_ℤ, Bool, false, not, if◌then◌else◌, ◌==◌, nat_le, List, [], ◌∷◌, drop, Ok}
 use Rattle.std.specs.List.{prefix_len}
 use Rattle.yaml_text.specs.Lines.{Bytes, onto_first, skip, trim_end}
-use Rattle.kinematics.specs.Tokens.{number_of}
+use Rattle.text_tokens.specs.Tokens.{number_of}
 use Rattle.input_schema.specs.declared.faults.File.{File}
 use Rattle.input_schema.specs.declared.faults.InputKind.TheVariants.{OutOfRange}
 use Rattle.input_schema.specs.Readings.{Outcome, refuse, each}

@@ -4,8 +4,8 @@ use Rattle.std.specs.Prelude.{ℕ, ◌+◌, ◌-◌, Bool, if◌then◌else◌, 
 use Rattle.std.specs.List.{list_all, prefix_len}
 use Rattle.std.specs.Str.{bytes_eq}
 use Rattle.yaml_text.specs.Lines.{Bytes, is_empty, skip, cut, bare}
-use Rattle.kinematics.specs.Names.{is_name}
-use Rattle.kinematics.specs.Tokens.{is_name_byte}
+use Rattle.text_tokens.specs.Names.{is_name}
+use Rattle.text_tokens.specs.Tokens.{is_name_byte}
 use Rattle.input_schema.specs.declared.faults.File.{File}
 use Rattle.input_schema.specs.declared.faults.InputKind.TheVariants.{BadLine, UnknownName, WrongCount}
 use Rattle.input_schema.specs.Readings.{Outcome, refuse, ◌>>=◌, each}

@@ -3,15 +3,15 @@
 ghost use Rattle.std.specs.Prelude.{◌≡◌, ◌≤◌, ◌<◌, [], ◌∷◌, true, false, ◌^◌, length, All, IfOk};
 ghost use Rattle.std.specs.List.{list_all};
 ghost use Rattle.std.specs.Option.{SomeIff};
-ghost use Rattle.kinematics.specs.Tokens.{number_of};
+ghost use Rattle.text_tokens.specs.Tokens.{number_of};
 ghost use Rattle.input_schema.specs.Readings.{Gives};
 ghost use Rattle.integral_index.specs.Integral.{IsIndex};
 ghost use Rattle.list_schema.specs.Indices as spec;
 
 use input_schema::{File, InputKind, SchemaError, fault, is_negative, is_number, unsigned};
-use kinematics::number_value;
 use sqlite_items::Items;
 use std::alloc::Global;
+use text_tokens::number_value;
 use yaml_text::{skip, trim_end};
 
 // The greatest index, and the greatest that an index is below zero.

@@ -9,9 +9,9 @@ use crate::indices::{indices, piece_count};
 use crate::names::{inner, is_integral, name_in};
 use input_schema::{File, InputKind, SchemaError, fault};
 use integral_index::Integral;
-use kinematics::Name;
 use sqlite_items::Items;
 use std::alloc::Global;
+use text_tokens::Name;
 use yaml_text::{bare, first_line, skip};
 
 /// The integral of this family with the indices between brackets, of which there must be `width`.

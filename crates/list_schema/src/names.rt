@@ -4,7 +4,7 @@ ghost use Rattle.std.specs.Prelude.{◌≡◌, ◌≤◌, true, length};
 ghost use Rattle.list_schema.specs.Lists as spec;
 
 use crate::indices::are_indices;
-use kinematics::{is_name, is_name_byte};
+use text_tokens::{is_name, is_name_byte};
 use yaml_text::skip;
 
 /// How many letters, digits and `_` stand at the front of a text.

@@ -7,7 +7,8 @@ ghost use Rattle.propagators.specs.Forms.{IsForm};
 use crate::forms::{Form, product, product_of};
 use crate::images::{image_residues, replaced};
 use field_word::Modulus;
-use kinematics::{Momentum, Point};
+use kinematics::Point;
+use momentum_sums::Momentum;
 use out_of_memory::OutOfMemory;
 use std::alloc::Global;
 

@@ -7,8 +7,8 @@ ghost use Rattle.propagators.specs.Momenta.{residues_of, replacement, replaced};
 
 use crate::momenta::residues;
 use field_word::Modulus;
-use kinematics::Momentum;
 use matrix_elimination::Vector;
+use momentum_sums::Momentum;
 use out_of_memory::OutOfMemory;
 use std::alloc::Global;
 

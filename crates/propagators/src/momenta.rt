@@ -5,7 +5,8 @@ ghost use Rattle.propagators.specs.Sums.{entry};
 ghost use Rattle.propagators.specs.Momenta.{residues_of, unit};
 
 use field_word::Modulus;
-use kinematics::{Momentum, residue};
+use kinematics::residue;
+use momentum_sums::Momentum;
 use out_of_memory::OutOfMemory;
 use std::alloc::Global;
 

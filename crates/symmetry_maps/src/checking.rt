@@ -10,7 +10,8 @@ ghost use Rattle.symmetry_maps.specs.Steps.{AreAlike, AreApart, IsNoForm, IsFree
 use crate::faults::MapFault;
 use crate::symmetries::Symmetry;
 use field_word::Modulus;
-use kinematics::{Momentum, Point};
+use kinematics::Point;
+use momentum_sums::Momentum;
 use out_of_memory::OutOfMemory;
 use propagators::{Denominator, Form, denominator_forms, image};
 use std::alloc::Global;

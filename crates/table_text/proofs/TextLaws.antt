@@ -16,7 +16,7 @@ use Rattle.std.proofs.lemmas.List.Elements.{recursion_from_All, All-from_recursi
 use Rattle.integral_index.specs.Integral.{Integral}
 use Rattle.integral_index.specs.Order.{by_fields, compare}
 use Rattle.integral_index.proofs.Orders.{by_fields-total, by_fields-IsAntisymmetric, compare-total}
-use Rattle.kinematics.specs.Tokens.{is_name_byte}
+use Rattle.text_tokens.specs.Tokens.{is_name_byte}
 use Rattle.sparse_row.specs.Row.{Row, coefficient, IsRow}
 use Rattle.reduction_core.specs.Table.{Table}
 use Rattle.reduction_core.proofs.Differences.{normal_form_is_row}

@@ -1,7 +1,7 @@
 -- What the text of a table tells of it. The project's own.
 use Rattle.std.specs.Prelude.{◌≡◌, ◌≢◌, ℕ, ◌<◌, ◌≤◌, ◌^◌, List, length, All, AllPairs, Contains}
 use Rattle.integral_index.specs.Integral.{Integral, IsIndex}
-use Rattle.kinematics.specs.Names.{IsName}
+use Rattle.text_tokens.specs.Names.{IsName}
 use Rattle.sparse_row.specs.Row.{IsRow}
 use Rattle.reduction_core.specs.Table.{Table}
 use Rattle.reduction_core.specs.NormalForm.{IsMaster}

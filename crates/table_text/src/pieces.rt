@@ -8,9 +8,9 @@ ghost use Rattle.table_text.specs.Pieces.{descending_terms, integral_text, line_
 
 use integral_index::Integral;
 use itoa::Buffer;
-use kinematics::Name;
 use out_of_memory::OutOfMemory;
 use sparse_row::{Row, Term};
+use text_tokens::Name;
 
 /// Appends an integral, whose family has the name at its place.
 pub(crate) fn push_integral(

@@ -10,11 +10,11 @@ ghost use Rattle.table_text.specs.TableText.{form_of, masters_text, table_text, 
 use crate::distinct::{ascending, push_shown};
 use crate::pieces::{push_integral, push_line, push_number};
 use integral_index::{Integral, ZeroSectors};
-use kinematics::Name;
 use out_of_memory::OutOfMemory;
 use reduction_core::Table;
 use sparse_row::Row;
 use std::alloc::Global;
+use text_tokens::Name;
 
 /// The text of a table for a selection: a line for each selected integral, and then the masters.
 /// Each family of the selection has its zero sectors.

@@ -1,5 +1,5 @@
 use Rattle.std.proofs.Common.{◌≡◌, drop, map}
-use Rattle.kinematics.specs.Names.{is_among}
+use Rattle.text_tokens.specs.Names.{is_among}
 use Rattle.family_schema.proofs.reader.unused.Given as goal
 
 abbrev pub invariant-loop-family : goal.invariant-loop-family

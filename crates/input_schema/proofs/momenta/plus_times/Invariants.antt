@@ -1,6 +1,6 @@
 use Rattle.std.proofs.Common.{◌≡◌, ◌++◌, true, drop, All, length}
 use Rattle.std.specs.List.{list_all}
-use Rattle.kinematics.specs.Momenta.{IsCoefficient}
+use Rattle.momentum_sums.specs.Momenta.{IsCoefficient}
 use Rattle.input_schema.specs.Momenta as spec
 use Rattle.input_schema.proofs.momenta.plus_times.Given as goal
 

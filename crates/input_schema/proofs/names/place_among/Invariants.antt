@@ -1,6 +1,6 @@
 use Rattle.std.proofs.Common.{◌≡◌, ◌+◌, drop}
-use Rattle.kinematics.specs.Names.{is_among}
-use Rattle.kinematics.specs.Values.{place_of}
+use Rattle.text_tokens.specs.Names.{is_among}
+use Rattle.rational_expressions.specs.Values.{place_of}
 use Rattle.input_schema.proofs.names.place_among.Given as goal
 
 abbrev pub invariant-loop-i : goal.invariant-loop-i

@@ -1,6 +1,0 @@
-use Rattle.std.proofs.Common.{◌∙◌}
-use Rattle.kinematics.proofs.SmallSums.{no_tallies}
-use Rattle.kinematics.proofs.momentum_reader.no_terms.Goals as goal
-
-pub returns : goal.returns
-returns c = c.in_ok-vec.ensures.items_if_clones_equal (λ y same. same) ∙ no_tallies c.args.names.now

@@ -1,0 +1,4 @@
+pub mod Momenta
+pub mod MomentumReader
+pub mod Printed
+pub mod Laws

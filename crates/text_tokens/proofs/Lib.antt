@@ -1,0 +1,5 @@
+pub mod TokenLemmas
+pub mod NumberLemmas
+pub mod NameLemmas
+pub mod Reading
+pub mod FaultLemmas

@@ -1,0 +1,4 @@
+pub mod Tokens
+pub mod Pieces
+pub mod Names
+pub mod Faults
