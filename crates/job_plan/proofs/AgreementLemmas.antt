@@ -22,7 +22,7 @@ use Rattle.job_point.specs.Agreement.{Agrees, NamesDivisorsAlone}
 use Rattle.job_point.specs.Laws.{PointsAgree, PointsNameDivisors}
 use Rattle.job_point.proofs.AgreeingSteps.{same_answer, is_agrees, then_agrees, each_agrees, then_names, is_names, each_names}
 use Rattle.job_plan.specs.declared.gathering.Integrals.{Integrals}
-use Rattle.job_plan.specs.Outlines.{Outline}
+use Rattle.job_outline.specs.Outlines.{Outline}
 use Rattle.job_plan.specs.ListFiles.{told, IsListRead}
 use Rattle.job_plan.specs.Gathering.{most_integrals, AreAll, Gathers, AreFewTerms, AreIntegrals}
 use Rattle.job_plan.specs.Plans.{HasPlan}

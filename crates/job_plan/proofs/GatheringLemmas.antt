@@ -19,8 +19,9 @@ use Rattle.job_point.specs.declared.faults.PlanError.TheVariants.{Input, Singula
 use Rattle.job_point.specs.Steps.{Answer, Refuses, Meets}
 use Rattle.job_point.proofs.StepLemmas.{then_is, then_refuses, then_refuses_later}
 use Rattle.yaml_text.specs.Lines.{Bytes}
-use Rattle.job_plan.specs.Outlines.{Outline}
-use Rattle.job_plan.specs.Shapes.{shape_of, shapes_of, terms_of}
+use Rattle.job_outline.specs.Outlines.{Outline}
+use Rattle.job_outline.specs.Shapes.{shape_of, shapes_of}
+use Rattle.job_plan.specs.Shapes.{terms_of}
 use Rattle.job_plan.specs.ListFiles.{AreListsRead}
 use Rattle.job_plan.specs.Gathering.{most_integrals, IsListed, IsSelected, AreAll, Gathers, AreFewTerms, AreIntegrals}
 use Rattle.job_plan.specs.Steps.{told}

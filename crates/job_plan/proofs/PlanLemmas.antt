@@ -1,13 +1,11 @@
 -- Lists of what the families have, place by place.
 use Rattle.std.proofs.Common.{◌≡◌, ℕ, ◌+◌, ◌<◌, ◌≤◌, List, [], ◌∷◌, ◌++◌, All, take, length, get_or, ap, sym, ◌∙◌, subst}
 use Rattle.std.specs.List.{AllZip}
-use Rattle.std.proofs.lemmas.List.{take_more, take_all, length-map}
+use Rattle.std.proofs.lemmas.List.{take_more, take_all}
 use Rattle.std.proofs.lemmas.List.Elements.{All-nil, All-cons}
 use Rattle.propagators.specs.Basis.{Basis}
 use Rattle.family_schema.specs.declared.content.Family.{Family}
-use Rattle.yaml_text.specs.Lines.{Bytes}
 use Rattle.job_point.specs.Point.{IsBasisOf}
-use Rattle.job_plan.specs.Readings.{names_of}
 
 AllZip-push : {A B : Type 0} (R : A → B → Type 0) (xs : List A) (ys : List B) (x : A) (y : B) → AllZip R xs ys → R x y → AllZip R (xs ++ x ∷ []) (ys ++ y ∷ [])
 AllZip-push R [] [] x y h one = (one, h)
@@ -32,7 +30,3 @@ at_modulus p externals [] [] h = All-nil _
 at_modulus p externals [] (basis ∷ bases) h = absurd h
 at_modulus p externals (family ∷ families) [] h = absurd h
 at_modulus p externals (family ∷ families) (basis ∷ bases) h = All-cons (λ (b : Basis). b.point.modulus ≡ p) basis bases h.0.modulus (at_modulus p externals families bases h.1)
-
--- there are as many names as families
-pub named_all : (families : List Family) (names : List Bytes) → names ≡ names_of families → length names ≡ length families
-named_all families names same = ap (λ (xs : List Bytes). length xs) same ∙ length-map families (λ family. family.name)

@@ -1,28 +1,18 @@
--- Neither the outline nor the plan of a job says that a file is missing.
-use Rattle.std.proofs.Common.{ℕ, List, [], map, Ok, Err, refl, subst}
+-- No plan of a job says that a file is missing.
+use Rattle.std.proofs.Common.{ℕ, List, [], Ok, Err, refl, subst}
 use Rattle.yaml_text.specs.Lines.{Bytes}
 use Rattle.integral_index.specs.Integral.{Integral}
 use Rattle.input_schema.specs.Readings.{Outcome}
 use Rattle.input_schema.specs.Readings as reading
-use Rattle.input_schema.proofs.Present as read
-use Rattle.kinematics_schema.specs.Laws.{KinematicsNeverSayMissing}
 use Rattle.family_schema.specs.declared.content.Family.{Family}
-use Rattle.family_schema.specs.Laws.{FamiliesNeverSayMissing}
 use Rattle.job_schema.specs.declared.selections.ListFile.{ListFile}
-use Rattle.job_schema.specs.Laws.{JobsNeverSayMissing, PointsNeverSayMissing}
 use Rattle.list_schema.specs.Lists.{list_file}
 use Rattle.list_schema.specs.Laws.{ListsNeverSayMissing}
 use Rattle.job_point.specs.Steps.{Answer, NeverSaysMissing}
 use Rattle.job_point.specs.Laws as point
 use Rattle.job_point.proofs.Present.{IsPresent, is_present, then_present, each_present}
-use Rattle.job_plan.specs.Readings.{parameters, names_of, frame_of}
 use Rattle.job_plan.specs.ListFiles.{told, IsListRead}
-use Rattle.job_plan.specs.Laws.{OutlinesNeverSayMissing, PlansNeverSayMissing}
-
-pub outlines_present : KinematicsNeverSayMissing → FamiliesNeverSayMissing → JobsNeverSayMissing → PointsNeverSayMissing → OutlinesNeverSayMissing
-outlines_present of_kinematics of_families of_jobs of_points families kinematics jobs words =
-    read.then_present _ _ (of_kinematics kinematics) (λ k. read.then_present _ _ (of_families k families) (λ f.
-    read.then_present _ _ (of_jobs (names_of f) (map frame_of f) (parameters k) jobs) (λ job. read.then_present _ _ (of_points (parameters k) job.point words) (λ point. read.is_present _ read.passed))))
+use Rattle.job_plan.specs.Laws.{PlansNeverSayMissing}
 
 told_present : {A : Type 0} (outcome : Outcome A) → reading.NeverSaysMissing (reading.Is outcome) → IsPresent (told outcome)
 told_present (Ok a) h = tt

@@ -26,12 +26,12 @@ use Rattle.job_point.specs.declared.faults.PlanError.TheVariants.{Input}
 use Rattle.job_point.specs.Point.{IsBasisOf}
 use Rattle.job_point.specs.Steps.{Answer, Step, After, Then, Each}
 use Rattle.job_plan.specs.declared.gathering.Integrals.{Integrals}
-use Rattle.job_plan.specs.Outlines.{Outline, IsSound}
-use Rattle.job_plan.specs.Shapes.{shapes_of}
+use Rattle.job_outline.specs.Outlines.{Outline, IsSound}
+use Rattle.job_outline.specs.Shapes.{shapes_of}
 use Rattle.job_plan.specs.ListFiles.{told, IsListRead, AreListsRead}
 use Rattle.job_plan.specs.Gathering.{IsSelected, AreIntegrals}
 use Rattle.job_plan.specs.Plans.{IsOfFamily}
-use Rattle.job_plan.proofs.Outcomes.{behind_known, each_counts, each_all, guarded}
+use Rattle.job_outline.proofs.Outcomes.{behind_known, each_counts, each_all, guarded}
 
 all_of : (P : Integral → Type 0) (xs : List Integral) → ((x : Integral) → Contains xs x → P x) → All P xs
 all_of P xs f = All-weaker (Contains xs) P f xs (All-contains_itself xs)

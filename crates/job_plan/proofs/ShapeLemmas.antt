@@ -15,8 +15,9 @@ use Rattle.kinematics_schema.specs.Sound as kinematics_file
 use Rattle.family_schema.specs.declared.content.Family.{Family}
 use Rattle.family_schema.specs.Scope.{width_of}
 use Rattle.job_equations.specs.Bounds.{IsEquationShape}
-use Rattle.job_plan.specs.Outlines.{AreFamilies}
-use Rattle.job_plan.specs.Shapes.{shape_of, shapes_of, equation_shape_of}
+use Rattle.job_outline.specs.Outlines.{AreFamilies}
+use Rattle.job_outline.specs.Shapes.{shape_of, shapes_of}
+use Rattle.job_plan.specs.Shapes.{equation_shape_of}
 use Rattle.job_plan.specs.Steps.{IsShapeFor}
 
 -- ---- what the shapes of families have

@@ -18,7 +18,7 @@ use Rattle.job_point.specs.Steps.{IsSingle}
 use Rattle.job_point.specs.Laws.{PointsAreSingle}
 use Rattle.job_point.proofs.StepLemmas.{is_single, then_single, each_single}
 use Rattle.job_plan.specs.declared.gathering.Integrals.{Integrals}
-use Rattle.job_plan.specs.Outlines.{Outline}
+use Rattle.job_outline.specs.Outlines.{Outline}
 use Rattle.job_plan.specs.ListFiles.{told, IsListRead}
 use Rattle.job_plan.specs.Gathering.{Gathers, AreFewTerms, AreIntegrals}
 use Rattle.job_plan.specs.Plans.{AreZerosOf, HasPlan}

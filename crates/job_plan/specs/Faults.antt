@@ -5,7 +5,7 @@ use Rattle.input_schema.specs.declared.faults.SchemaError.TheVariants as schema_
 use Rattle.input_schema.specs.Readings.{Reading}
 use Rattle.job_point.specs.declared.faults.PlanError.{PlanError}
 use Rattle.job_point.specs.declared.faults.PlanError.TheVariants.{Input, Singular, RulesClash, Composite, TooMany, OutOfMemory}
-use Rattle.job_plan.specs.Outlines.{Outline}
+use Rattle.job_outline.specs.Outlines.{Outline}
 
 -- the fault of a file or of a word as a fault of the input; want of memory stays
 abbrev pub plan_error : SchemaError → PlanError

@@ -13,8 +13,9 @@ use Rattle.job_point.specs.declared.faults.PlanError.{PlanError}
 use Rattle.job_point.specs.declared.faults.PlanError.TheVariants.{TooMany}
 use Rattle.job_point.specs.Steps.{Step, Is, Then}
 use Rattle.job_plan.specs.declared.gathering.Integrals.{Integrals}
-use Rattle.job_plan.specs.Outlines.{Outline}
-use Rattle.job_plan.specs.Shapes.{shapes_of, terms_of}
+use Rattle.job_outline.specs.Outlines.{Outline}
+use Rattle.job_outline.specs.Shapes.{shapes_of}
+use Rattle.job_plan.specs.Shapes.{terms_of}
 use Rattle.job_plan.specs.ListFiles.{AreListsRead}
 
 -- the most seeds, and the most selected integrals

@@ -1,8 +1,5 @@
 pub mod Shapes
-pub mod Outlines
-pub mod KeptOutline
 pub mod Faults
-pub mod Readings
 pub mod ListFiles
 pub mod Gathering
 pub mod Steps

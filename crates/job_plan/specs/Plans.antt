@@ -13,8 +13,8 @@ use Rattle.job_equations.specs.Equations.{AreSymmetriesOf, IsSeedOf}
 use Rattle.job_point.specs.declared.points.AtPoint.{AtPoint}
 use Rattle.job_point.specs.Steps.{Step, Then}
 use Rattle.job_point.specs.Point.{IsAtPoint}
-use Rattle.job_plan.specs.Outlines.{Outline}
-use Rattle.job_plan.specs.Readings.{names_of}
+use Rattle.job_outline.specs.Outlines.{Outline}
+use Rattle.job_outline.specs.Readings.{names_of}
 use Rattle.job_plan.specs.declared.gathering.Integrals.{Integrals}
 use Rattle.job_plan.specs.Gathering.{AreIntegrals}
 

@@ -1,19 +1,11 @@
--- What the seeds and the bound on the terms have to know of the families. The project's own.
+-- What the bound on the terms has to know of the families. The project's own.
 use Rattle.std.specs.Prelude.{ℕ, List, map, length}
 use Rattle.integral_index.specs.Integral.{Integral}
-use Rattle.seed_sets.specs.declared.Shape.{Shape}
 use Rattle.kinematics_schema.specs.declared.content.Kinematics.{Kinematics}
 use Rattle.family_schema.specs.declared.content.Family.{Family}
 use Rattle.family_schema.specs.Scope.{independent_count}
 use Rattle.job_equations.specs.declared.bounds.EquationShape.{EquationShape}
 use Rattle.job_equations.specs.Bounds.{term_bound}
-
--- the width of a family, and its zero sectors
-abbrev pub shape_of : Family → Shape
-shape_of family = record { width = family.width; zeros = family.zero_sectors }
-
-abbrev pub shapes_of : List Family → List Shape
-shapes_of families = map shape_of families
 
 -- its loop momenta, the independent external momenta, its width, and its symmetries
 abbrev pub equation_shape_of : Kinematics → Family → EquationShape

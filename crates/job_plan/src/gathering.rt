@@ -6,17 +6,17 @@ ghost use Rattle.seed_sets.specs.Seeds.{IsFitting, IsSeedOfSome};
 ghost use Rattle.family_schema.specs.Sound as family_file;
 ghost use Rattle.job_point.specs.Steps.{Meets, Refuses};
 ghost use Rattle.job_point.specs.declared.faults.Excess.TheVariants.{Seeds, Selected};
-ghost use Rattle.job_plan.specs.Shapes.{shapes_of};
+ghost use Rattle.job_outline.specs.Shapes.{shapes_of};
 ghost use Rattle.job_plan.specs.Gathering.{AreFewTerms, AreIntegrals, Gathers, IsSelected};
-ghost use Rattle.job_plan.specs.Outlines.{IsSound};
+ghost use Rattle.job_outline.specs.Outlines.{IsSound};
 ghost use Rattle.job_plan.specs.Steps.{IsShapeFor};
 ghost use Rattle.job_plan.specs.Steps as spec;
 
 use crate::list_files::read_lists;
-use crate::outlines::Outline;
 use crate::terms::test_terms;
 use family_schema::Family;
 use integral_index::{Integral, Order, ZeroSectors};
+use job_outline::Outline;
 use job_point::{Excess, PlanError};
 use job_schema::Selection;
 use out_of_memory::OutOfMemory;
@@ -137,10 +137,10 @@ pub fn integrals_of(
     ensures { Meets (AreIntegrals outline.now (map (λ text. text.items) texts.now)) result }
 {
     let families = outline.families();
-    let Selection { specs, files } = &outline.select;
+    let Selection { specs, files } = outline.select();
     let lists = read_lists(alloc, families, files.as_slice(), texts)?;
     let shapes = shapes_of(alloc, families)?;
-    let reduce = outline.reduce.as_slice();
+    let reduce = outline.reduce();
     let seeds = seeds_of(alloc, Excess::Seeds, reduce, families, &shapes)?;
     let selection = selection_of(alloc, specs.as_slice(), families, &shapes, lists.as_slice())?;
     test_terms(alloc, outline.kinematics(), families, seeds.as_slice())?;

@@ -1,17 +1,9 @@
-//! Laws of the reading of a job and of its plan.
+//! Laws of the plan of a job.
 
-ghost use Rattle.job_plan.specs.Laws.{OutlineIsSingle, PlanIsSingle, PlansAgree, PlansNameDivisors, OutlinesHaveAModulus, OneSelection, OutlinesNeverSayMissing, PlansNeverSayMissing};
+ghost use Rattle.job_outline.specs.Laws.{OutlineIsSingle, OutlinesHaveAModulus, OneSelection, OutlinesNeverSayMissing};
+ghost use Rattle.job_plan.specs.Laws.{PlanIsSingle, PlansAgree, PlansNameDivisors, PlansNeverSayMissing};
 
 use integral_index::Order;
-
-/// The same trees and words are read as one outline at most, or have one first fault at most, and never
-/// both. It does nothing when it runs.
-pub fn outline_is_single()
-    ensures { OutlineIsSingle }
-{
-    kinematics_schema::reading_is_single();
-    family_schema::reading_is_single();
-}
 
 /// The same outline and the same texts of its list files have one plan at most, modulo a number above 1. It
 /// does nothing when it runs.
@@ -35,25 +27,13 @@ pub fn plans_agree()
     job_point::points_agree();
 }
 
-/// The modulus of every outline is one that serves, and the same trees select the same, whatever the words
-/// are. It does nothing when it runs.
-pub fn outlines_have_a_modulus()
-    ensures modulus { OutlinesHaveAModulus }
-    ensures selection { OneSelection }
-{
-    kinematics_schema::reading_is_single();
-    family_schema::reading_is_single();
-}
-
 /// Neither the trees and words of a job nor an outline and the texts of its list files are refused as a file that
 /// is missing: only the loading of files says so. It does nothing when it runs.
 pub fn jobs_never_say_missing()
     ensures outlines { OutlinesNeverSayMissing }
     ensures plans { PlansNeverSayMissing }
 {
-    kinematics_schema::reading_never_says_missing();
-    family_schema::reading_never_says_missing();
-    job_schema::reading_never_says_missing();
+    job_outline::outlines_never_say_missing();
     list_schema::reading_never_says_missing();
     job_point::points_never_say_missing();
 }

@@ -9,11 +9,10 @@ ghost use Rattle.job_point.specs.Steps.{Meets};
 ghost use Rattle.job_plan.specs.Plans.{AreZerosOf, IsOfFamily, IsPlanOf, IsPlan};
 
 use crate::gathering::{Integrals, integrals_of};
-use crate::outlines::Outline;
-use crate::parts::names_of;
 use crate::plans::Plan;
 use family_schema::Family;
 use integral_index::{Order, ZeroSectors};
+use job_outline::{Outline, names_of};
 use job_point::{AtPoint, PlanError, at_point};
 use out_of_memory::OutOfMemory;
 use sqlite_items::Items;

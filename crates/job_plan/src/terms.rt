@@ -6,7 +6,7 @@ ghost use Rattle.kinematics_schema.specs.Sound as kinematics_file;
 ghost use Rattle.job_equations.specs.Bounds.{IsEquationShape};
 ghost use Rattle.job_equations.specs.Bounds as bound;
 ghost use Rattle.job_point.specs.Steps.{Meets};
-ghost use Rattle.job_plan.specs.Outlines.{AreFamilies};
+ghost use Rattle.job_outline.specs.Outlines.{AreFamilies};
 ghost use Rattle.job_plan.specs.Shapes.{equation_shape_of, terms_of};
 ghost use Rattle.job_plan.specs.Gathering.{AreFewTerms};
 

@@ -1,5 +1,5 @@
 -- What a job says at its numeric point, and which fault comes first. The project's own.
-use Rattle.std.specs.Prelude.{◌≡◌, ℕ, ◌+◌, Option, Some, None, List, [], length, map, remove, All, Ok, Err}
+use Rattle.std.specs.Prelude.{◌≡◌, ℕ, List, [], length, map, All, Ok, Err}
 use Rattle.kinematics.specs.declared.rules.Rule.{Rule}
 use Rattle.kinematics.specs.declared.rules.PointFault.{PointFault}
 use Rattle.kinematics.specs.declared.rules.PointFault.TheVariants as point_fault
@@ -159,14 +159,6 @@ AreFamiliesAt p residues point families =
     Then (Each (λ found family. IsFamilyAt p residues point (length found) family) [] families) (λ found. Is (Ok (split found)))
 
 -- ---- all of it
-
--- the dimension, and the invariants but the symbol
-abbrev pub others : {A : Type 0} → Option ℕ → List A → List A
-others None xs = xs
-others (Some place) xs = remove xs place
-
-abbrev pub parameter_count : Kinematics → ℕ
-parameter_count kinematics = 1 + length (others kinematics.symbol kinematics.invariants)
 
 -- the values of the invariants and of the dimension, then the rules and their point, and then the families
 abbrev pub IsAtPoint : ℕ → Kinematics → List Family → List Setting → Step AtPoint

@@ -6,7 +6,8 @@ ghost use Rattle.kinematics_schema.specs.Sound as kinematics_file;
 ghost use Rattle.family_schema.specs.Scope.{independent_count};
 ghost use Rattle.family_schema.specs.Sound as family_file;
 ghost use Rattle.job_point.specs.Steps.{Meets};
-ghost use Rattle.job_point.specs.Point.{parameter_count, IsAtPoint, IsBasisOf, AreSymmetriesOf};
+ghost use Rattle.kinematics_schema.specs.Parameters.{parameter_count};
+ghost use Rattle.job_point.specs.Point.{IsAtPoint, IsBasisOf, AreSymmetriesOf};
 
 use crate::bases::families_at;
 use crate::faults::PlanError;

@@ -1,4 +1,5 @@
 pub mod Independent
 pub mod KinematicsFile
 pub mod Sound
+pub mod Parameters
 pub mod Laws

@@ -19,9 +19,10 @@ use Rattle.job_point.specs.declared.faults.PlanError.TheVariants as plan_error
 use Rattle.job_point.specs.declared.faults.Singular.TheVariants as singular
 use Rattle.job_point.specs.Steps as point
 use Rattle.job_point.specs.Agreement.{IsSameFault, IsSameAnswer, NamesDivisor}
-use Rattle.job_plan.specs.Laws.{OutlineIsSingle, OutlinesHaveAModulus, PlansAgree, PlansNameDivisors}
-use Rattle.job_plan.specs.Outlines.{Outline}
-use Rattle.job_plan.specs.Readings.{ReadsOutline}
+use Rattle.job_outline.specs.Laws.{OutlineIsSingle, OutlinesHaveAModulus}
+use Rattle.job_plan.specs.Laws.{PlansAgree, PlansNameDivisors}
+use Rattle.job_outline.specs.Outlines.{Outline}
+use Rattle.job_outline.specs.Readings.{ReadsOutline}
 use Rattle.job_plan.specs.Plans.{Plan, IsPlan}
 use Rattle.kira_app.specs.declared.job_files.Trees.{Trees}
 use Rattle.kira_app.specs.declared.status.Status.{Status}

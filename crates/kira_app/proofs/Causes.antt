@@ -11,8 +11,9 @@ use Rattle.job_schema.specs.Overridden.{Override}
 use Rattle.job_point.specs.declared.points.AtPoint.{AtPoint}
 use Rattle.job_point.specs.Steps as point
 use Rattle.job_point.specs.Point.{IsAtPoint}
-use Rattle.job_plan.specs.Laws.{OutlineIsSingle, OutlinesNeverSayMissing, PlansNeverSayMissing}
-use Rattle.job_plan.specs.Outlines.{Outline}
+use Rattle.job_outline.specs.Laws.{OutlineIsSingle, OutlinesNeverSayMissing}
+use Rattle.job_plan.specs.Laws.{PlansNeverSayMissing}
+use Rattle.job_outline.specs.Outlines.{Outline}
 use Rattle.job_plan.specs.Plans.{Plan, IsPlan}
 use Rattle.kira_app.specs.declared.job_files.Trees.{Trees}
 use Rattle.kira_app.specs.declared.status.Status.{Status}

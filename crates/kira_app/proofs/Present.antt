@@ -7,9 +7,10 @@ use Rattle.input_schema.specs.Readings.{IsNotMissing}
 use Rattle.job_schema.specs.Overridden.{Override}
 use Rattle.job_point.specs.declared.faults.PlanError.{PlanError}
 use Rattle.job_point.specs.declared.faults.PlanError.TheVariants as plan_error
-use Rattle.job_plan.specs.Outlines.{Outline}
+use Rattle.job_outline.specs.Outlines.{Outline}
 use Rattle.job_plan.specs.Plans.{IsPlan}
-use Rattle.job_plan.specs.Laws.{OutlinesNeverSayMissing, PlansNeverSayMissing}
+use Rattle.job_outline.specs.Laws.{OutlinesNeverSayMissing}
+use Rattle.job_plan.specs.Laws.{PlansNeverSayMissing}
 use Rattle.kira_app.specs.declared.job_files.Trees.{Trees}
 use Rattle.kira_app.specs.declared.status.Status.{Status}
 use Rattle.kira_app.specs.declared.refusal.Refusal.{Refusal}

@@ -7,8 +7,8 @@ use Rattle.job_schema.specs.Overridden.{Override}
 use Rattle.job_point.specs.declared.faults.PlanError.{PlanError}
 use Rattle.job_point.specs.declared.faults.PlanError.TheVariants as plan_error
 use Rattle.job_point.specs.declared.faults.Singular.TheVariants as singular
-use Rattle.job_plan.specs.Outlines.{Outline}
-use Rattle.job_plan.specs.Readings.{names_of}
+use Rattle.job_outline.specs.Outlines.{Outline}
+use Rattle.job_outline.specs.Readings.{names_of}
 use Rattle.job_plan.specs.Plans.{Plan, IsPlan}
 use Rattle.kira_outside.specs.Held.{Held}
 use Rattle.kira_app.specs.declared.status.Status.{Status}

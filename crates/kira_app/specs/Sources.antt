@@ -16,8 +16,8 @@ use Rattle.input_schema.specs.Readings as input
 use Rattle.kira_outside.specs.Held.{Held}
 use Rattle.job_schema.specs.declared.selections.ListFile.{ListFile}
 use Rattle.job_schema.specs.Overridden.{Override}
-use Rattle.job_plan.specs.Outlines.{Outline}
-use Rattle.job_plan.specs.Readings.{ReadsOutline}
+use Rattle.job_outline.specs.Outlines.{Outline}
+use Rattle.job_outline.specs.Readings.{ReadsOutline}
 use Rattle.kira_app.specs.declared.job_files.Trees.{Trees}
 use Rattle.kira_app.specs.contracts.job_files.Trees as trees_contracts
 use Rattle.kira_app.specs.declared.refusal.Refusal.{Refusal}

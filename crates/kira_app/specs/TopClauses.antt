@@ -15,7 +15,7 @@ use Rattle.table_text.specs.Pieces.{name_of}
 use Rattle.table_text.specs.TableText.{table_text, zeros_of}
 use Rattle.job_equations.specs.Equations.{AreEquations}
 use Rattle.job_point.specs.declared.faults.Singular.TheVariants as singular
-use Rattle.job_plan.specs.Outlines.{Outline}
+use Rattle.job_outline.specs.Outlines.{Outline}
 use Rattle.job_plan.specs.Plans.{Plan}
 use Rattle.kira_app.specs.declared.job_files.Trees.{Trees}
 use Rattle.kira_app.specs.declared.status.Status.{Status}

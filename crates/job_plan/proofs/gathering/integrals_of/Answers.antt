@@ -1,7 +1,7 @@
 use Rattle.std.proofs.Common.{◌∙◌, map, ap}
 use Rattle.job_point.proofs.StepLemmas.{refused}
 use Rattle.job_plan.specs.Gathering.{AreIntegrals}
-use Rattle.job_plan.specs.Outlines.{Outline}
+use Rattle.job_schema.specs.declared.selections.Selection.{Selection}
 use Rattle.job_plan.proofs.GatheringLemmas.{integrals_found, integrals_refused, seeds_placed}
 use Rattle.job_plan.proofs.gathering.integrals_of.Goals as goal
 
@@ -11,9 +11,9 @@ test_terms-requires-clause-seeds c = rw c.as_slice-4.ensures (seeds_placed c.fam
 pub returns-in_err-test_terms : goal.returns-in_err-test_terms
 returns-in_err-test_terms c =
     let outline = c.args.outline.now in
-    let files = c.as_slice.ensures ∙ ap (λ (o : Outline). o.select.files) c.outline.view_is in
-    let reduce = c.as_slice-reduce.ensures ∙ ap (λ (o : Outline). o.reduce) c.outline.view_is in
-    let specs = c.as_slice-2.ensures ∙ ap (λ (o : Outline). o.select.specs) c.outline.view_is in
+    let files = c.as_slice.ensures ∙ ap (λ (s : Selection). s.files) c.select.ensures in
+    let reduce = c.reduce-reduce.ensures in
+    let specs = c.as_slice-2.ensures ∙ ap (λ (s : Selection). s.specs) c.select.ensures in
     refused (AreIntegrals outline (map (λ text. text.items) c.args.texts.now)) _ _ c.from_residual-in_err-test_terms.ensures.1
     (integrals_refused outline (map (λ text. text.items) c.args.texts.now) c.in_ok-lists.lists c.in_ok-seeds.seeds c.in_ok-selection.selection
     (record {
@@ -25,9 +25,9 @@ returns-in_err-test_terms c =
 pub returns : goal.returns
 returns c =
     let outline = c.args.outline.now in
-    let files = c.as_slice.ensures ∙ ap (λ (o : Outline). o.select.files) c.outline.view_is in
-    let reduce = c.as_slice-reduce.ensures ∙ ap (λ (o : Outline). o.reduce) c.outline.view_is in
-    let specs = c.as_slice-2.ensures ∙ ap (λ (o : Outline). o.select.specs) c.outline.view_is in
+    let files = c.as_slice.ensures ∙ ap (λ (s : Selection). s.files) c.select.ensures in
+    let reduce = c.reduce-reduce.ensures in
+    let specs = c.as_slice-2.ensures ∙ ap (λ (s : Selection). s.specs) c.select.ensures in
     integrals_found outline (map (λ text. text.items) c.args.texts.now) c.in_ok-lists.lists c.in_ok-seeds.seeds c.in_ok-selection.selection
     (record {
       read = rw (c.families-families.ensures.value, files) at c.in_ok-lists.ensures;

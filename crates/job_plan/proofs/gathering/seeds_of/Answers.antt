@@ -1,5 +1,5 @@
 use Rattle.seed_sets.specs.Seeds.{IsSeedOfSome}
-use Rattle.job_plan.specs.Shapes.{shapes_of}
+use Rattle.job_outline.specs.Shapes.{shapes_of}
 use Rattle.job_plan.proofs.ShapeLemmas.{shapes_wide, specs_fit, same_seeds}
 use Rattle.job_plan.proofs.GatheringLemmas.{meets_list, meets_same}
 use Rattle.job_plan.proofs.gathering.seeds_of.Goals as goal

@@ -4,7 +4,7 @@ use Rattle.integral_index.specs.Integral.{Integral}
 use Rattle.seed_sets.specs.Seeds.{IsSeedOfSome}
 use Rattle.job_point.specs.declared.faults.Excess.TheVariants.{Selected}
 use Rattle.job_point.proofs.StepLemmas.{refused}
-use Rattle.job_plan.specs.Shapes.{shapes_of}
+use Rattle.job_outline.specs.Shapes.{shapes_of}
 use Rattle.job_plan.specs.Gathering.{Gathers, IsSelected}
 use Rattle.job_plan.proofs.GatheringLemmas.{meets_list, meets_same, refuses_of, selected_same}
 use Rattle.job_plan.proofs.gathering.selection_of.Goals as goal

@@ -1,7 +1,7 @@
 use Rattle.std.proofs.Common.{◌≡◌, ◌∙◌, length, sym}
 use Rattle.std.proofs.lemmas.Slice.Zip.{AllZip-long}
 use Rattle.job_plan.specs.Plans.{AreZerosOf}
-use Rattle.job_plan.proofs.PlanLemmas.{named_all}
+use Rattle.job_outline.proofs.NameLemmas.{named_all}
 use Rattle.job_plan.proofs.planner.plan_of.Goals as goal
 
 pub invariant_of-result : goal.invariant_of-result

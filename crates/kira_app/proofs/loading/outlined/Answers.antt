@@ -1,6 +1,6 @@
 use Rattle.std.proofs.Common.{Ok, List, refl}
 use Rattle.job_schema.specs.Overridden.{Override}
-use Rattle.job_plan.specs.Outlines.{Outline}
+use Rattle.job_outline.specs.Outlines.{Outline}
 use Rattle.kira_app.specs.declared.job_files.Trees.{Trees}
 use Rattle.job_point.specs.Steps.{Is, Then}
 use Rattle.kira_app.specs.Steps.{Step, plain}

@@ -1,0 +1,5 @@
+pub mod Shapes
+pub mod Outlines
+pub mod KeptOutline
+pub mod Readings
+pub mod Laws

@@ -1,6 +1,0 @@
-use Rattle.std.proofs.Common.{◌≡◌, map, take}
-use Rattle.job_plan.specs.Readings.{frame_of}
-use Rattle.job_plan.proofs.parts.frames_of.Given as goal
-
-abbrev pub invariant-loop-family : goal.invariant-loop-family
-invariant-loop-family l = l.frames.items ≡ map frame_of (take l.family-index l.families)

@@ -1,6 +1,0 @@
-use Rattle.std.proofs.Common.{◌≡◌, take}
-use Rattle.job_plan.specs.Readings.{names_of}
-use Rattle.job_plan.proofs.parts.names_of.Given as goal
-
-abbrev pub invariant-loop-family : goal.invariant-loop-family
-invariant-loop-family l = l.names.items ≡ names_of (take l.family-index l.families)
