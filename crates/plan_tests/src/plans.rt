@@ -3,8 +3,8 @@
 ghost use Rattle.std.specs.Prelude.{◌≡◌, ◌≤◌, ◌^◌, All, IfSome, length};
 
 use crate::outlines::{FAMILIES, JOB, KINEMATICS, ONE_MOMENTUM, TWO_LISTS, sound_outline};
-use job_plan::{Excess, File, InputFault, Outline, Plan, PlanError, Singular, plan};
 use integral_index::Order;
+use job_plan::{Excess, File, InputFault, Outline, Plan, PlanError, Singular, plan};
 use sparse_row::Row;
 use std::alloc::Global;
 
