@@ -119,19 +119,31 @@ def rows_of(table):
     return [row.split("\t") for row in text.splitlines() if not row.startswith("#")]
 
 
+def unescaped(text):
+    """The text of a cell, a character for each byte."""
+    return text.encode().decode("unicode_escape")
+
+
+def refuses_files(program, source, files, words, message):
+    """With these words the program refuses the job of this folder with these files in place of its own."""
+    with tempfile.TemporaryDirectory() as place:
+        folder = pathlib.Path(shutil.copytree(source, place, dirs_exist_ok=True))
+        for name, text in files:
+            (folder / name).write_text(text, "latin-1")
+        return refuses(program, folder, words, message)
+
+
 def refuses_edited(program, name, first, count, with_text, message):
     """The program refuses the job of examples/refused with these lines of this file replaced."""
     source = TOP / "examples" / "refused"
-    with tempfile.TemporaryDirectory() as place:
-        folder = pathlib.Path(shutil.copytree(source, place, dirs_exist_ok=True))
-        (folder / name).write_text(edited((source / name).read_text(), int(first), int(count), with_text))
-        return refuses(program, folder, ["jobs.yaml"], f"{name}:{message}")
+    text = edited((source / name).read_text(), int(first), int(count), with_text)
+    return refuses_files(program, source, [(name, text)], ["jobs.yaml"], f"{name}:{message}")
 
 
 def check_refusals(program):
     """The built program refuses each file of the tables, and one that is too long, with its message."""
     for name, first, count, message, text in rows_of("refusals.tsv"):
-        if not refuses_edited(program, name, first, count, text.encode().decode("unicode_escape"), message):
+        if not refuses_edited(program, name, first, count, unescaped(text), message):
             fail(f"examples/refused/refusals.tsv: {name} with {text[:60]} isn't refused with {message}")
     for name, first, count, items, item, head in rows_of("long_lists.tsv"):
         text = head + ", ".join([item] * int(items)) + "]"
@@ -140,6 +152,16 @@ def check_refusals(program):
     for name in ("jobs.yaml", "config/integralfamilies.yaml", "config/kinematics.yaml"):
         if not refuses_edited(program, name, 1, 99, "#" * (2**24 + 1), "0: longer than 16777216 bytes"):
             fail(f"examples/refused: {name} with a byte too many isn't refused")
+
+
+def check_whole_files(program):
+    """The built program refuses each job of the table, whose cells behind the words replace whole files."""
+    for job, message, words, *cells in rows_of("whole_files.tsv"):
+        pairs = [cell.split("=", 1) for cell in cells]
+        files = [(name, unescaped(text)) for name, text in pairs]
+        words = [unescaped(word) for word in words.split(" ")]
+        if not refuses_files(program, TOP / "examples" / "refused" / job, files, words, message):
+            fail(f"examples/refused/whole_files.tsv: {job} {words} {str(cells)[:60]} isn't refused with {message}")
 
 
 def check_words(program):
@@ -174,6 +196,7 @@ def check_program():
         fail("crates/kira/out/kira: isn't built, so the refused files weren't tried")
         return
     check_refusals(program)
+    check_whole_files(program)
     check_words(program)
     check_divisors(program)
 

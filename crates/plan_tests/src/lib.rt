@@ -1,8 +1,10 @@
-//! Tests of outlines and plans.
+//! Tests of numeric points, outlines and plans.
 #![tactic(auto)]
 
 #[cfg(test)]
 mod integrals;
+#[cfg(test)]
+mod numeric_points;
 #[cfg(test)]
 mod outlines;
 #[cfg(test)]

@@ -14,168 +14,7 @@ pub(crate) const FAMILIES: &'static str =
 pub(crate) const JOB: &'static str =
     "jobs:\n  - reduce_sectors:\n      reduce:\n        - {topologies: [tad], sectors: [1], r: 2, s: 0}\n      select_integrals:\n        select_mandatory_recursively:\n          - {topologies: [tad], sectors: [1], r: 3, s: 0}\n      run_initiate: true\n      run_triangular: true\n      run_back_substitution: true\n      numeric_point: {prime: 101, d: 7, m2: 3}\n";
 
-const NO_MOMENTA: &'static str = "kinematics: {}";
-
 const NO_FAMILY: &'static str = "integralfamilies:\n  []";
-
-const NO_JOB: &'static str = "jobs: {}";
-
-const MASS_IS_ONE: &'static str =
-    "kinematics:\n  incoming_momenta: []\n  kinematic_invariants: [[m2, 2]]\n  symbol_to_replace_by_one: m2\n";
-
-const ONLY_DIMENSION: &'static str =
-    "jobs:\n  - reduce_sectors:\n      reduce:\n        - {topologies: [tad], sectors: [1], r: 2, s: 0}\n      select_integrals: {}\n      numeric_point: {prime: 101, d: 7}\n";
-
-const ONLY_MASS: &'static str =
-    "jobs:\n  - reduce_sectors:\n      reduce:\n        - {topologies: [tad], sectors: [1], r: 2, s: 0}\n      select_integrals: {}\n      numeric_point: {prime: 101, m2: 3}\n";
-
-const SECTOR_TWO: &'static str =
-    "jobs:\n  - reduce_sectors:\n      reduce:\n        - {topologies: [tad], sectors: [2], r: 2, s: 0}\n      select_integrals: {}\n      numeric_point: {}\n";
-
-const BUBBLE: &'static str =
-    "jobs:\n  - reduce_sectors:\n      reduce:\n        - {topologies: [bub], sectors: [1], r: 2, s: 0}\n      select_integrals: {}\n      numeric_point: {}\n";
-
-/// The texts of the three files and the words, with the first fault.
-struct Refused {
-    kinematics: &'static str,
-    families: &'static str,
-    jobs: &'static str,
-    words: &'static [&'static str],
-    file: File,
-    line: u32,
-    kind: InputKind,
-}
-
-// The file of kinematics comes first, then that of families, then that of jobs, then the words, and at last
-// a missing value. Where m2 is 1, it is no parameter.
-const REFUSED: [Refused; 14] = [
-    Refused {
-        kinematics: NO_MOMENTA,
-        families: NO_FAMILY,
-        jobs: NO_JOB,
-        words: &["m2"],
-        file: File::Kinematics,
-        line: 1,
-        kind: InputKind::MissingKey,
-    },
-    Refused {
-        kinematics: NO_MOMENTA,
-        families: NO_FAMILY,
-        jobs: JOB,
-        words: &[],
-        file: File::Kinematics,
-        line: 1,
-        kind: InputKind::MissingKey,
-    },
-    Refused {
-        kinematics: NO_MOMENTA,
-        families: FAMILIES,
-        jobs: JOB,
-        words: &["m2"],
-        file: File::Kinematics,
-        line: 1,
-        kind: InputKind::MissingKey,
-    },
-    Refused {
-        kinematics: KINEMATICS,
-        families: NO_FAMILY,
-        jobs: NO_JOB,
-        words: &["m2"],
-        file: File::Families,
-        line: 2,
-        kind: InputKind::OutOfRange,
-    },
-    Refused {
-        kinematics: KINEMATICS,
-        families: NO_FAMILY,
-        jobs: JOB,
-        words: &[],
-        file: File::Families,
-        line: 2,
-        kind: InputKind::OutOfRange,
-    },
-    Refused {
-        kinematics: KINEMATICS,
-        families: FAMILIES,
-        jobs: NO_JOB,
-        words: &["m2"],
-        file: File::Jobs,
-        line: 1,
-        kind: InputKind::Shape,
-    },
-    Refused {
-        kinematics: KINEMATICS,
-        families: FAMILIES,
-        jobs: JOB,
-        words: &["m2"],
-        file: File::Words,
-        line: 2,
-        kind: InputKind::BadOverride,
-    },
-    Refused {
-        kinematics: KINEMATICS,
-        families: FAMILIES,
-        jobs: ONLY_MASS,
-        words: &["m2=3", "s=1"],
-        file: File::Words,
-        line: 3,
-        kind: InputKind::UnknownName,
-    },
-    Refused {
-        kinematics: KINEMATICS,
-        families: FAMILIES,
-        jobs: ONLY_MASS,
-        words: &["m2=5"],
-        file: File::Jobs,
-        line: 6,
-        kind: InputKind::NoValue,
-    },
-    Refused {
-        kinematics: KINEMATICS,
-        families: FAMILIES,
-        jobs: ONLY_DIMENSION,
-        words: &[],
-        file: File::Jobs,
-        line: 6,
-        kind: InputKind::NoValue,
-    },
-    Refused {
-        kinematics: KINEMATICS,
-        families: FAMILIES,
-        jobs: BUBBLE,
-        words: &[],
-        file: File::Jobs,
-        line: 4,
-        kind: InputKind::UnknownName,
-    },
-    Refused {
-        kinematics: KINEMATICS,
-        families: FAMILIES,
-        jobs: SECTOR_TWO,
-        words: &[],
-        file: File::Jobs,
-        line: 4,
-        kind: InputKind::OutOfRange,
-    },
-    Refused {
-        kinematics: MASS_IS_ONE,
-        families: FAMILIES,
-        jobs: ONLY_MASS,
-        words: &["d=7"],
-        file: File::Jobs,
-        line: 6,
-        kind: InputKind::UnknownKey,
-    },
-    Refused {
-        kinematics: MASS_IS_ONE,
-        families: FAMILIES,
-        jobs: ONLY_DIMENSION,
-        words: &["m2=3"],
-        file: File::Words,
-        line: 2,
-        kind: InputKind::UnknownName,
-    },
-];
 
 /// The words of a command, of which the first is the name of the job file.
 fn words_of(alloc: Global, words: &[&str]) -> Option<Vec<Override>> {
@@ -191,7 +30,7 @@ fn words_of(alloc: Global, words: &[&str]) -> Option<Vec<Override>> {
     Some(made)
 }
 
-fn tree_of(alloc: Global, text: &str) -> Option<Tree> {
+pub(crate) fn tree_of(alloc: Global, text: &str) -> Option<Tree> {
     if text.len() > 1000 {
         return None;
     }
@@ -221,7 +60,7 @@ fn trees_of(alloc: Global, kinematics: &str, families: &str, jobs: &str) -> Opti
 }
 
 /// What the files and the words say, or `None` where a text is no tree or too long, or memory was refused.
-pub(crate) fn outline_of(
+fn outline_of(
     alloc: Global,
     kinematics: &str,
     families: &str,
@@ -259,28 +98,22 @@ fn has_fault(outcome: &Result<Outline, PlanError>, file: File, line: u32, kind: 
     }
 }
 
-fn is_refused(alloc: Global, refused: &Refused) -> bool {
-    match outline_of(
-        alloc,
-        refused.kinematics,
-        refused.families,
-        refused.jobs,
-        refused.words,
-    ) {
-        Some(outcome) => has_fault(&outcome, refused.file, refused.line, refused.kind),
-        None => false,
-    }
-}
-
+// The word is at fault, and a file that is read before the words goes before it.
 #[test]
 fn names_the_first_fault(rt: HostRuntime) {
-    for refused in &REFUSED {
-        assert!(rt; is_refused(rt.alloc(), refused));
+    for (families, file, line, kind) in [
+        (NO_FAMILY, File::Families, 2, InputKind::OutOfRange),
+        (FAMILIES, File::Words, 2, InputKind::BadOverride),
+    ] {
+        match outline_of(rt.alloc(), KINEMATICS, families, JOB, &["m2"]) {
+            Some(outcome) => assert!(rt; has_fault(&outcome, file, line, kind)),
+            None => assert!(rt; false),
+        }
     }
 }
 
 /// A whole number that stands on line 11 of the file of jobs.
-fn whole(numerator: u128) -> Setting {
+pub(crate) fn whole(numerator: u128) -> Setting {
     Setting {
         file: File::Jobs,
         line: 11,

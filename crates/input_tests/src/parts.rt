@@ -2,15 +2,17 @@
 
 ghost use Rattle.std.specs.Prelude.{◌≡◌, ◌+◌, ◌<◌, ◌^◌, length};
 
+use crate::shared::{fault_in, is_fault, names_of, tree_of};
 use input_schema::{
-    File, InputFault, InputKind, Key, SchemaError, fields, flag, fresh, is_negative, is_number,
-    items, joined, list, momentum, name, needed, new_name, number, optional, pair, place_among,
-    reference, replaced, scalar, unsigned, value, wide_number, written_number,
+    File, InputFault, InputKind, Key, fields, flag, fresh, is_negative, is_number, items, joined,
+    list, momentum, name, needed, new_name, number, optional, pair, place_among, reference,
+    replaced, scalar, unsigned, value, wide_number, written_number,
 };
-use kinematics::{Momentum, Name};
+use momentum_sums::Momentum;
+use text_tokens::Name;
 use std::alloc::Global;
 use std::test::Fail;
-use yaml_text::{Pair, Tree, YamlKind, read};
+use yaml_text::{Pair, Tree, YamlKind};
 
 #[derive(Clone, Copy)]
 enum Part {
@@ -88,30 +90,6 @@ const REFUSED: &[(Part, &str, u32, InputKind)] = &[
     (Part::Map, "{}", 1, InputKind::MissingKey),
 ];
 
-fn declared(alloc: Global) -> Result<Vec<Name>, Fail> {
-    let mut names = Vec::new(alloc);
-    for text in ["k1", "p1"] {
-        if let Some(name) = Name::new(alloc, text)? {
-            names.push(name)?;
-        }
-    }
-    Ok(names)
-}
-
-fn tree_of(alloc: Global, text: &str) -> Option<Tree> {
-    if text.len() > 1000 {
-        return None;
-    }
-    read(alloc, text.as_bytes()).ok()
-}
-
-fn fault_in<T: Drop>(answer: Result<T, SchemaError>) -> Option<InputFault> {
-    match answer {
-        Err(SchemaError::Fault(fault)) => Some(fault),
-        _ => None,
-    }
-}
-
 fn fault_of(alloc: Global, part: Part, node: &Tree, names: &[Name]) -> Option<InputFault> {
     let file = File::Jobs;
     if names.len() > 10 {
@@ -134,11 +112,6 @@ fn fault_of(alloc: Global, part: Part, node: &Tree, names: &[Name]) -> Option<In
             fault_in(fields(file, &keys, node))
         }
     }
-}
-
-// Whether this is that fault.
-fn is_fault(found: Option<InputFault>, file: File, line: u32, kind: InputKind) -> bool {
-    found == Some(InputFault { file, line, kind })
 }
 
 fn fault_of_text(alloc: Global, part: Part, text: &str, names: &[Name]) -> Option<InputFault> {
@@ -164,7 +137,7 @@ fn all_are_refused(alloc: Global, names: &[Name]) -> bool {
 
 #[test]
 fn names_the_first_fault_of_a_part(rt: HostRuntime) -> Result<(), Fail> {
-    let names = declared(rt.alloc())?;
+    let names = names_of(rt.alloc(), &["k1", "p1"])?;
     assert!(rt; names.len() == 2 && all_are_refused(rt.alloc(), &names));
     Ok(())
 }
@@ -267,7 +240,7 @@ fn is_fresh_alone(alloc: Global, node: &Tree, names: &[Name]) -> bool {
 
 #[test]
 fn reads_names(rt: HostRuntime) -> Result<(), Fail> {
-    let names = declared(rt.alloc())?;
+    let names = names_of(rt.alloc(), &["k1", "p1"])?;
     let known = tree_of(rt.alloc(), "p1").ok_or("no tree")?;
     assert!(rt; names.len() == 2 && has_place(rt.alloc(), &known, &names, 1));
     assert!(rt; is_fresh_alone(rt.alloc(), &known, &names));
@@ -276,7 +249,7 @@ fn reads_names(rt: HostRuntime) -> Result<(), Fail> {
 
 #[test]
 fn reads_a_new_name(rt: HostRuntime) -> Result<(), Fail> {
-    let names = declared(rt.alloc())?;
+    let names = names_of(rt.alloc(), &["k1", "p1"])?;
     let other = tree_of(rt.alloc(), "prime_").ok_or("no tree")?;
     assert!(rt; names.len() == 2 && is_new(rt.alloc(), &other, &names, "prime_"));
     Ok(())
@@ -284,7 +257,7 @@ fn reads_a_new_name(rt: HostRuntime) -> Result<(), Fail> {
 
 #[test]
 fn joins_and_finds_names(rt: HostRuntime) -> Result<(), Fail> {
-    let names = declared(rt.alloc())?;
+    let names = names_of(rt.alloc(), &["k1", "p1"])?;
     assert!(rt; place_among(&names, b"k1") == Some(0) && place_among(&names, b"k").is_none());
     let joined = joined(rt.alloc(), &names, &names)?;
     assert!(rt; joined.len() == 4 && joined[3].as_str() == "p1");
@@ -331,7 +304,7 @@ fn is_sum(alloc: Global, node: &Tree, names: &[Name], coefficients: &[i16]) -> b
 
 #[test]
 fn reads_momenta_and_values(rt: HostRuntime) -> Result<(), Fail> {
-    let names = declared(rt.alloc())?;
+    let names = names_of(rt.alloc(), &["k1", "p1"])?;
     let sum = tree_of(rt.alloc(), "-k1 + 2*p1").ok_or("no tree")?;
     let tree = tree_of(rt.alloc(), "k1^2/3").ok_or("no tree")?;
     assert!(rt; names.len() == 2 && is_sum(rt.alloc(), &sum, &names, &[-1, 2]));

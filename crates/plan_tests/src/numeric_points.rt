@@ -4,9 +4,10 @@ ghost use Rattle.std.specs.Prelude.{◌≡◌};
 ghost use Rattle.kinematics_schema.specs.Sound.{IsSound};
 ghost use Rattle.job_point.specs.Point as spec;
 
-use job_point::{AtPoint, PlanError, Singular, at_point};
+use crate::outlines::{FAMILIES, KINEMATICS, tree_of, whole};
 use field_word::Modulus;
 use input_schema::{File, InputKind};
+use job_point::{AtPoint, PlanError, Singular, at_point};
 use job_schema::{Divisor, NumericPoint, Ratio, Setting};
 use kinematics_schema::Kinematics;
 use propagators::Basis;
@@ -14,24 +15,11 @@ use sqlite_items::Items;
 use std::alloc::Global;
 use yaml_text::Tree;
 
-const TADPOLE: &'static str =
-    "kinematics :\n  incoming_momenta: []\n  outgoing_momenta: []\n  kinematic_invariants:\n    - [m2, 2]\n  scalarproduct_rules: []\n";
-
-const TADPOLE_FAMILY: &'static str =
-    "integralfamilies:\n  - name: \"tad\"\n    loop_momenta: [k1]\n    top_level_sectors: [1]\n    propagators:\n      - [\"k1\", \"m2\"]\n";
-
 const BUBBLE: &'static str =
     "kinematics :\n  incoming_momenta: [p1]\n  kinematic_invariants:\n    - [s, 2]\n  scalarproduct_rules:\n    - [[p1,p1], s]\n";
 
 const BUBBLE_FAMILY: &'static str =
     "integralfamilies:\n  - name: bub\n    loop_momenta: [k1]\n    propagators:\n      - [k1, 0]\n      - [k1+p1, 0]\n";
-
-fn tree_of(alloc: Global, text: &str) -> Option<Tree> {
-    if text.len() > 1000 {
-        return None;
-    }
-    yaml_text::read(alloc, text.as_bytes()).ok()
-}
 
 // How many values the numeric point gives.
 fn parameter_count(kinematics: &Kinematics) -> usize
@@ -41,19 +29,6 @@ fn parameter_count(kinematics: &Kinematics) -> usize
     match kinematics.symbol {
         Some(_) => kinematics.invariants.len(),
         None => 1 + kinematics.invariants.len(),
-    }
-}
-
-// A whole number, as the file of jobs gives it.
-fn whole(number: u128) -> Setting {
-    Setting {
-        file: File::Jobs,
-        line: 11,
-        ratio: Ratio {
-            is_negative: false,
-            numerator: number,
-            divisor: None,
-        },
     }
 }
 
@@ -153,7 +128,7 @@ fn is_tadpole(at: &AtPoint) -> bool {
 #[test]
 fn values_a_tadpole(rt: HostRuntime) {
     let settings = [whole(7), whole(3)];
-    match values_of(rt.alloc(), TADPOLE, TADPOLE_FAMILY, 101, &settings) {
+    match values_of(rt.alloc(), KINEMATICS, FAMILIES, 101, &settings) {
         Some(at) => assert!(rt; is_tadpole(&at)),
         None => assert!(rt; false),
     }
@@ -204,7 +179,7 @@ fn values_a_negative_ratio(rt: HostRuntime) {
         },
     };
     let settings = [half, over(2, 7, 2)];
-    match values_of(rt.alloc(), TADPOLE, TADPOLE_FAMILY, 101, &settings) {
+    match values_of(rt.alloc(), KINEMATICS, FAMILIES, 101, &settings) {
         Some(at) => assert!(rt; at.dimension == 47 && has_own_derivative(&at, &[7, 2])),
         None => assert!(rt; false),
     }
@@ -292,7 +267,7 @@ fn refuses_values_of_the_point(rt: HostRuntime) {
         ),
         ([over(3, 1, 0), whole(5)], Cause::Divisor(File::Words, 3, 1)),
     ] {
-        assert!(rt; has_cause(rt.alloc(), TADPOLE, TADPOLE_FAMILY, 101, &settings, cause));
+        assert!(rt; has_cause(rt.alloc(), KINEMATICS, FAMILIES, 101, &settings, cause));
     }
 }
 

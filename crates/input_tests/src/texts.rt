@@ -2,20 +2,13 @@
 
 ghost use Rattle.std.specs.Prelude.{◌<◌, All, IsTrue};
 
-use kinematics::{Expression, Momentum, Name, TextError, TextFault, TextKind, ValueFault, read_momentum, read_value};
+use crate::shared::names_of;
 use field_word::{Composite, Modulus};
+use momentum_sums::{Momentum, read_momentum};
+use rational_expressions::{Expression, ValueFault, read_value};
+use text_tokens::{Name, TextError, TextFault, TextKind};
 use std::alloc::Global;
 use std::test::Fail;
-
-fn names(alloc: Global, texts: &[&str]) -> Result<Vec<Name>, Fail> {
-    let mut names = Vec::new(alloc);
-    for text in texts {
-        if let Some(name) = Name::new(alloc, *text)? {
-            names.push(name)?;
-        }
-    }
-    Ok(names)
-}
 
 const NAMES: &[&str] = &["k1", "K", "p_2", "abcdefghijklmnopqrstuvwxyz012345"];
 
@@ -100,7 +93,7 @@ fn all_are_read(alloc: Global, names: &[Name]) -> bool {
 
 #[test]
 fn reads_momenta(rt: HostRuntime) -> Result<(), Fail> {
-    let names = names(rt.alloc(), &["k1", "k2", "p1"])?;
+    let names = names_of(rt.alloc(), &["k1", "k2", "p1"])?;
     assert!(rt; names.len() == 3 && all_are_read(rt.alloc(), &names));
     Ok(())
 }
@@ -154,7 +147,7 @@ fn no_momentum_is_read(alloc: Global, names: &[Name]) -> bool {
 
 #[test]
 fn names_the_first_fault_of_a_momentum(rt: HostRuntime) -> Result<(), Fail> {
-    let names = names(rt.alloc(), &["k1", "k2", "p1"])?;
+    let names = names_of(rt.alloc(), &["k1", "k2", "p1"])?;
     assert!(rt; names.len() == 3 && no_momentum_is_read(rt.alloc(), &names));
     Ok(())
 }
@@ -255,7 +248,7 @@ fn all_have_values(
 #[test]
 fn reads_and_values_expressions(rt: HostRuntime) -> Result<(), Fail> {
     let (modulo_101, modulo_7) = (Modulus::new(101)?, Modulus::new(7)?);
-    let names = names(rt.alloc(), &["s", "t", "m2"])?;
+    let names = names_of(rt.alloc(), &["s", "t", "m2"])?;
     assert!(rt; names.len() == 3 && all_have_values(rt.alloc(), &names, &modulo_101, &modulo_7));
     Ok(())
 }
@@ -293,7 +286,7 @@ fn none_has_a_value(alloc: Global, names: &[Name], modulus: &Modulus) -> bool {
 #[test]
 fn names_the_first_division_that_fails(rt: HostRuntime) -> Result<(), Fail> {
     let modulus = Modulus::new(15)?;
-    let names = names(rt.alloc(), &["s"])?;
+    let names = names_of(rt.alloc(), &["s"])?;
     assert!(rt; names.len() == 1 && none_has_a_value(rt.alloc(), &names, &modulus));
     Ok(())
 }
@@ -338,7 +331,7 @@ fn no_expression_is_read(alloc: Global, names: &[Name]) -> bool {
 
 #[test]
 fn names_the_first_fault_of_an_expression(rt: HostRuntime) -> Result<(), Fail> {
-    let names = names(rt.alloc(), &["s"])?;
+    let names = names_of(rt.alloc(), &["s"])?;
     assert!(rt; names.len() == 1 && no_expression_is_read(rt.alloc(), &names));
     Ok(())
 }
