@@ -10,6 +10,7 @@ One `rt` keeps all others out of the folders of the crates below its own, so tha
 Each crate is therefore built in a room: a copy of its text and of that of the crates below, with their built libraries.
 """
 import concurrent.futures
+import contextlib
 import hashlib
 import math
 import os
@@ -165,7 +166,8 @@ class Builder:
         with self.alone:
             self.is_ending = True
             for child in self.children:
-                os.killpg(child.pid, signal.SIGTERM)
+                with contextlib.suppress(ProcessLookupError):
+                    os.killpg(child.pid, signal.SIGTERM)
 
     def build(self, name, jobs):
         """Builds one crate, and gives whether it is proved, its time and what was said."""
@@ -199,24 +201,29 @@ class Builder:
 
     def run(self, left, built, lanes):
         """Builds the crates that are left, and gives whether all are proved."""
-        running = {}
         with concurrent.futures.ThreadPoolExecutor(lanes) as pool:
-            while left or running:
-                free = lanes - sum(jobs for _, jobs in running.values())
-                begun = self.next_of(left, built, free, lanes)
-                if begun:
-                    left.remove(begun[0])
-                    running[pool.submit(self.build, *begun)] = begun
-                    continue
-                ended = concurrent.futures.wait(running, return_when=concurrent.futures.FIRST_COMPLETED).done
-                for it in ended:
-                    name, _ = running.pop(it)
-                    is_proved, seconds, text = it.result()
-                    self.tell(name, len(built) + 1, is_proved, seconds, text)
-                    if not is_proved:
-                        self.end()
-                        return False
-                    built.append(name)
+            try:
+                return self.run_in(pool, left, built, lanes)
+            finally:
+                # The pool waits for its threads, and those for their children.
+                self.end()
+
+    def run_in(self, pool, left, built, lanes):
+        running = {}
+        while left or running:
+            free = lanes - sum(jobs for _, jobs in running.values())
+            begun = self.next_of(left, built, free, lanes)
+            if begun:
+                left.remove(begun[0])
+                running[pool.submit(self.build, *begun)] = begun
+                continue
+            for it in concurrent.futures.wait(running, return_when=concurrent.futures.FIRST_COMPLETED).done:
+                name, _ = running.pop(it)
+                is_proved, seconds, text = it.result()
+                self.tell(name, len(built) + 1, is_proved, seconds, text)
+                if not is_proved:
+                    return False
+                built.append(name)
         return True
 
 
@@ -256,7 +263,7 @@ def build(names, uses, stamp):
     try:
         return builder.run(left, built, lanes)
     finally:
-        builder.end()
+        shutil.rmtree(ROOMS, ignore_errors=True)
 
 
 def main():
