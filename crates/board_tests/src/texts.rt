@@ -7,7 +7,6 @@ ghost use Rattle.sparse_row.specs.Row.{IsRow};
 use crate::shared::{Wrong, integral};
 use field_word::Modulus;
 use integral_index::{Integral, Order, ZeroSectors, is_index_list};
-use text_tokens::Name;
 use kira_outside::MemorySink;
 use out_of_memory::OutOfMemory;
 use reduction_core::reduce_plain;
@@ -15,6 +14,7 @@ use sparse_row::Row;
 use std::alloc::Global;
 use std::test::Fail;
 use table_text::{masters, send, text, write_all};
+use text_tokens::Name;
 
 // b_2[1,-1] - a[2] - 85*a[1], modulo 101.
 fn equation(alloc: Global, modulus: &Modulus) -> Result<Row, Wrong>

@@ -8,11 +8,11 @@ use job_schema::{
     Divisor, Frame, Job, NumericPoint, Override, PointInput, Ratio, Setting, override_point,
     read_jobs, read_override,
 };
-use text_tokens::Name;
 use seed_sets::Spec;
 use sqlite_items::Items;
 use std::alloc::Global;
 use std::test::Fail;
+use text_tokens::Name;
 
 // Sector 7 of the vacuum is in none of its top level sectors, and 8 is none of its sectors.
 const OUTSIDE: &'static str =

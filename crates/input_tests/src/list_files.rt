@@ -3,11 +3,11 @@
 use crate::shared::{fault_in, is_fault};
 use input_schema::{File, InputKind, SchemaError};
 use integral_index::Integral;
-use text_tokens::Name;
 use list_schema::read_list;
 use sqlite_items::Items;
 use std::alloc::Global;
 use std::test::Fail;
+use text_tokens::Name;
 
 // The eighth family, which has three indices, in the third list file.
 fn read(alloc: Global, text: &str) -> Result<Result<Items<Integral>, SchemaError>, Fail> {

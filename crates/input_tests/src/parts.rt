@@ -9,9 +9,9 @@ use input_schema::{
     replaced, scalar, unsigned, value, wide_number, written_number,
 };
 use momentum_sums::Momentum;
-use text_tokens::Name;
 use std::alloc::Global;
 use std::test::Fail;
+use text_tokens::Name;
 use yaml_text::{Pair, Tree, YamlKind};
 
 #[derive(Clone, Copy)]

@@ -1,9 +1,9 @@
 //! What the tests share: names, trees of texts, and the faults of answers.
 
 use input_schema::{File, InputFault, InputKind, SchemaError};
-use text_tokens::Name;
 use std::alloc::Global;
 use std::test::Fail;
+use text_tokens::Name;
 use yaml_text::{Tree, read};
 
 pub(crate) fn names_of(alloc: Global, texts: &[&str]) -> Result<Vec<Name>, Fail> {

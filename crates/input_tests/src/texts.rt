@@ -6,9 +6,9 @@ use crate::shared::names_of;
 use field_word::{Composite, Modulus};
 use momentum_sums::{Momentum, read_momentum};
 use rational_expressions::{Expression, ValueFault, read_value};
-use text_tokens::{Name, TextError, TextFault, TextKind};
 use std::alloc::Global;
 use std::test::Fail;
+use text_tokens::{Name, TextError, TextFault, TextKind};
 
 const NAMES: &[&str] = &["k1", "K", "p_2", "abcdefghijklmnopqrstuvwxyz012345"];
 
