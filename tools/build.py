@@ -250,6 +250,8 @@ def build(names, uses, stamp):
     processors = len(os.sched_getaffinity(0))
     lanes = max(1, min(processors, free_memory() // MEMORY))
     built = kept_of(names, uses, stamp)
+    # It is written again once all is built: until then it would tell of libraries that are no longer there.
+    STAMP.unlink(missing_ok=True)
     longest = chains(names, uses)
     left = sorted((it for it in names if it not in built), key=lambda it: -longest[it])
     tell_time(lanes, len(left))

@@ -32,7 +32,8 @@ def is_too_long(text, table):
 
 
 def main(folder, *words):
-    data = [it for name, file in files_of(pathlib.Path(folder).resolve()).items() for it in ("--data", f"{name}={file}")]
+    files = files_of(pathlib.Path(folder).resolve())
+    data = [it for name, file in files.items() for it in ("--data", f"{name}={file}")]
     call = ["rt", "try", "--seconds", str(SECONDS), *data, "--", *words]
     print(NOTICE, file=sys.stderr, flush=True)
     done = subprocess.run(call, cwd=TOP / "crates" / "kira", stdin=subprocess.DEVNULL, capture_output=True)
