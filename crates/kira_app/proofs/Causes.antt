@@ -3,6 +3,7 @@ use Rattle.std.proofs.Common.{◌≡◌, ◌≢◌, ◌⊎◌, inl, inr, ℕ, Bo
 use Rattle.std.specs.Result.{is_ok, IsErrAnd}
 use Rattle.std.proofs.lemmas.Bool.{true≢false}
 use Rattle.yaml_text.specs.Lines.{Bytes}
+use Rattle.field_word.specs.declared.Composite.{Composite}
 use Rattle.kira_outside.specs.Faults.{Rose}
 use Rattle.kira_outside.specs.Held.{Held}
 use Rattle.kinematics_schema.specs.declared.content.Kinematics.{Kinematics}
@@ -21,15 +22,15 @@ use Rattle.kira_app.specs.declared.status.Status.TheVariants as status
 use Rattle.kira_app.specs.declared.refusal.Refusal.{Refusal}
 use Rattle.job_point.specs.Steps.{After, Then}
 use Rattle.kira_app.specs.Steps.{Answer, plain, OfPlan}
-use Rattle.kira_app.specs.Told.{IfTold, ByStatus, Answers, RefusesTold, Tells, SaysMissing, IsMissed}
+use Rattle.kira_app.specs.Told.{IfTold, ByStatus, Answers, RefusesTold, Tells, SaysMissing, IsMissed, IsCounted}
 use Rattle.command_line.specs.Request.{Asked}
 use Rattle.command_line.specs.Request as line
 use Rattle.kira_app.specs.Words.{asks, is_served, job_file, overrides_of, AreAnswered, AsksHelp}
 use Rattle.kira_app.specs.Sources.{Sources, TreesOf, OutlineOf, ReadsSources}
 use Rattle.kira_app.specs.Plans.{refusal_of, PlanOfSources, ServesAs, ServesWords, PlanOf}
-use Rattle.kira_app.specs.TopClauses.{HavePlan, AreRefusedAs, IsDivisor, IsDivisorIn, IsPrime, IsReductionFault, StandsStill, Around, HasCause, HasEnded, IsAlike, IsAnsweredBy}
+use Rattle.kira_app.specs.TopClauses.{HavePlan, AreRefusedAs, IsDivisor, IsDivisorIn, NamesDivisor, IsStopped, IsPrime, IsReductionFault, StandsStill, Around, IsRefusal, HasCause, HasEnded, IsAlike, IsAnsweredBy}
 use Rattle.kira_app.specs.Laws.{AreAlike, NamesDivisorIn, JobsAgree, JobsNameDivisors, JobsHaveOneModulus}
-use Rattle.kira_app.proofs.Told.{weaker, always, then_is, then_refused, refused_first, next_answers, missing_said}
+use Rattle.kira_app.proofs.Told.{weaker, always, then_is, then_refused, refused_first, next_answers, missing_said, still_count}
 use Rattle.kira_app.proofs.Present.{outline_present, plan_present}
 use Rattle.kira_app.proofs.Agreement.{parted, trees_read, single_trees, single_outline}
 
@@ -168,33 +169,33 @@ unfine : (s : Status) → is_fine s ≡ false → s ≢ status.Ok
 unfine s other e = true≢false (sym (ap is_fine e) ∙ other)
 
 -- a refusal of the plan
-pub plan_caused : JobsNameDivisors → (a : Around) (s : Status) (name : Bytes) → ByStatus s (Rose a.faults a.faults_after) (IfTold a.held (AreRefusedAs a.words s name)) → IsCaused a s name
-plan_caused law a status.OutOfMemory name h = (unfine status.OutOfMemory refl, tt)
-plan_caused law a status.ReadFault name h = (unfine status.ReadFault refl, h)
-plan_caused law a status.Ok name h = absurd h
-plan_caused law a status.WriteFault name h = absurd h
-plan_caused law a (status.Input f) name h = (unfine (status.Input f) refl, h)
-plan_caused law a (status.Singular c) name h = (unfine (status.Singular c) refl, h)
-plan_caused law a (status.RulesClash m r) name h = (unfine (status.RulesClash m r) refl, h)
-plan_caused law a (status.TooMany what count) name h = (unfine (status.TooMany what count) refl, h)
-plan_caused law a status.Usage name h = absurd h
-plan_caused law a status.NotYet name h = absurd h
-plan_caused law a (status.Composite f) name h =
-    (unfine (status.Composite f) refl, weaker a.held _ _ (λ files is. law a.words files (record { status = status.Composite f; name = name }) f is refl) h)
+pub plan_caused : (a : Around) (s : Status) (name : Bytes) → ByStatus s (Rose a.faults a.faults_after) (IsRefusal a s name) → IsCaused a s name
+plan_caused a status.OutOfMemory name h = (unfine status.OutOfMemory refl, tt)
+plan_caused a status.ReadFault name h = (unfine status.ReadFault refl, h)
+plan_caused a status.Ok name h = absurd h
+plan_caused a status.WriteFault name h = absurd h
+plan_caused a (status.Input f) name h = (unfine (status.Input f) refl, h)
+plan_caused a (status.Singular c) name h = (unfine (status.Singular c) refl, h)
+plan_caused a (status.RulesClash m r) name h = (unfine (status.RulesClash m r) refl, h)
+plan_caused a (status.TooMany what count) name h = (unfine (status.TooMany what count) refl, h)
+plan_caused a status.Usage name h = absurd h
+plan_caused a status.NotYet name h = absurd h
+plan_caused a (status.Composite f) name h =
+    (unfine (status.Composite f) refl, (weaker a.held _ _ (λ files is. inl (name, is)) h.0, still_count a.held a.faults a.faults_after (status.Composite f) (λ missing. missing) h.1))
 
 -- a refusal of the reduction
-pub reduction_caused : (a : Around) (plan : Plan) (s : Status) → IfTold a.held (λ files. PlanOf a.words files (Ok plan)) → IsReductionFault plan.modulus s → IsCaused a s []
-reduction_caused a plan (status.Composite f) told h = (unfine (status.Composite f) refl, weaker a.held _ _ (λ files is. divisor_of_plan a.words files plan f.divisor is h) told)
-reduction_caused a plan status.OutOfMemory told h = (unfine status.OutOfMemory refl, tt)
-reduction_caused a plan status.Ok told h = absurd h
-reduction_caused a plan status.Usage told h = absurd h
-reduction_caused a plan status.NotYet told h = absurd h
-reduction_caused a plan (status.Input f) told h = absurd h
-reduction_caused a plan (status.Singular c) told h = absurd h
-reduction_caused a plan (status.RulesClash m r) told h = absurd h
-reduction_caused a plan (status.TooMany what count) told h = absurd h
-reduction_caused a plan status.ReadFault told h = absurd h
-reduction_caused a plan status.WriteFault told h = absurd h
+pub reduction_caused : (a : Around) (plan : Plan) (s : Status) → IfTold a.held (λ files. PlanOf a.words files (Ok plan)) → a.faults_after ≡ a.faults → IsReductionFault plan.modulus s → IsCaused a s []
+reduction_caused a plan (status.Composite f) told count h = (unfine (status.Composite f) refl, (weaker a.held _ _ (λ files is. inr (record { plan = plan; is = is; holds = h })) told, count))
+reduction_caused a plan status.OutOfMemory told count h = (unfine status.OutOfMemory refl, tt)
+reduction_caused a plan status.Ok told count h = absurd h
+reduction_caused a plan status.Usage told count h = absurd h
+reduction_caused a plan status.NotYet told count h = absurd h
+reduction_caused a plan (status.Input f) told count h = absurd h
+reduction_caused a plan (status.Singular c) told count h = absurd h
+reduction_caused a plan (status.RulesClash m r) told count h = absurd h
+reduction_caused a plan (status.TooMany what n) told count h = absurd h
+reduction_caused a plan status.ReadFault told count h = absurd h
+reduction_caused a plan status.WriteFault told count h = absurd h
 
 -- ---- words that no job is read for
 
@@ -204,20 +205,20 @@ unserved asked served is none = subst (λ (a : Asked). ServesAs a served (Err (p
 refused_words : (words : List Bytes) (held : Held) (e : Refusal) → ServesWords words (Err e) → PlanOf words held (Err e)
 refused_words words held e is = then_refused (ServesWords words) (λ _. Then (ReadsSources (overrides_of words) (job_file words) held) (PlanOfSources (overrides_of words))) e is
 
-pub answered_caused : (a : Around) (s : Status) → AreAnswered a.words s → IsCaused a s []
-answered_caused a status.Usage h =
-    (unfine status.Usage refl, (h, always a.held _ (λ files. refused_words a.words files (plain status.Usage) (subst (λ (q : Asked). ServesAs q (is_served a.words) (Err (plain status.Usage))) (sym h) refl))))
-answered_caused a status.NotYet h =
-    (unfine status.NotYet refl, (h, always a.held _ (λ files. refused_words a.words files (plain status.NotYet) (unserved (asks a.words) (is_served a.words) h.0 h.1))))
-answered_caused a status.OutOfMemory h = (unfine status.OutOfMemory refl, tt)
-answered_caused a status.Ok h = absurd h
-answered_caused a (status.Input f) h = absurd h
-answered_caused a (status.Singular c) h = absurd h
-answered_caused a (status.RulesClash m r) h = absurd h
-answered_caused a (status.Composite f) h = absurd h
-answered_caused a (status.TooMany what count) h = absurd h
-answered_caused a status.ReadFault h = absurd h
-answered_caused a status.WriteFault h = absurd h
+pub answered_caused : (a : Around) (s : Status) → a.faults_after ≡ a.faults → AreAnswered a.words s → IsCaused a s []
+answered_caused a status.Usage count h =
+    (unfine status.Usage refl, (h, (always a.held _ (λ files. refused_words a.words files (plain status.Usage) (subst (λ (q : Asked). ServesAs q (is_served a.words) (Err (plain status.Usage))) (sym h) refl)), inl count)))
+answered_caused a status.NotYet count h =
+    (unfine status.NotYet refl, (h, (always a.held _ (λ files. refused_words a.words files (plain status.NotYet) (unserved (asks a.words) (is_served a.words) h.0 h.1)), inl count)))
+answered_caused a status.OutOfMemory count h = (unfine status.OutOfMemory refl, tt)
+answered_caused a status.Ok count h = absurd h
+answered_caused a (status.Input f) count h = absurd h
+answered_caused a (status.Singular c) count h = absurd h
+answered_caused a (status.RulesClash m r) count h = absurd h
+answered_caused a (status.Composite f) count h = absurd h
+answered_caused a (status.TooMany what n) count h = absurd h
+answered_caused a status.ReadFault count h = absurd h
+answered_caused a status.WriteFault count h = absurd h
 
 -- words that ask for the usage line have neither a plan nor a refusal
 pub help_has_no_plan : (words : List Bytes) (held : Held) (r : Answer Plan) → AsksHelp words → PlanOf words held r → ⊥
@@ -274,68 +275,100 @@ no_plan : (plan : Plan) (e : Refusal) → ◌≡◌ {A = Answer Plan} (Err e) (O
 no_plan plan e h = true≢false (sym (ap is_ok h))
 
 module _ (agree : JobsAgree) (one : JobsHaveOneModulus) (a : Around) (files : Held) (told : a.held ≡ Some files) where
-  abbrev Divisible : Type 0
-  Divisible = (divisor : ℕ) × IsDivisorIn a.words divisor files
-
-  named_in : (r : Answer Plan) → NamesDivisorIn a.words files r → Divisible
-  named_in (Ok plan) d = absurd d
-  named_in (Err e) d = (d.0.divisor, d.2)
-
   -- a refusal and a plan
-  plan_or_refusal : (plan : Plan) (e : Refusal) → AreAlike (Ok plan) (Err e) ⊎ (NamesDivisorIn a.words files (Ok plan) ⊎ NamesDivisorIn a.words files (Err e)) → Divisible
+  plan_or_refusal : (plan : Plan) (e : Refusal) → AreAlike (Ok plan) (Err e) ⊎ (NamesDivisorIn a.words files (Ok plan) ⊎ NamesDivisorIn a.words files (Err e)) → NamesDivisor a.words files e.status
   plan_or_refusal plan e (inl h) = absurd (no_plan plan e h)
   plan_or_refusal plan e (inr (inl d)) = absurd d
-  plan_or_refusal plan e (inr (inr d)) = named_in (Err e) d
+  plan_or_refusal plan e (inr (inr d)) = d
 
-  refused_and_planned : (e : Refusal) → PlanOf a.words files (Err e) → (P : Plan → Type 0) → IfTold a.held (HavePlan a.words P) → Divisible
-  refused_and_planned e refused P h =
-      let found = told_at a.held files (HavePlan a.words P) told h in
-      plan_or_refusal found.plan e (agree a.words files (Ok found.plan) (Err e) found.is refused)
-
-  two_refusals : (e x : Refusal) → AreAlike (Err e) (Err x) ⊎ (NamesDivisorIn a.words files (Err e) ⊎ NamesDivisorIn a.words files (Err x)) → IsAnsweredBy a.words files e.status x.status
-  two_refusals e x (inl h) = inl (subst (λ (y : Refusal). IsAlike e.status y.status) (sym (ap (refusal_or x) h.1)) h.2)
-  two_refusals e x (inr (inl d)) = inr (inr (named_in (Err e) d))
-  two_refusals e x (inr (inr d)) = inr (inr (named_in (Err x) d))
+  -- two refusals, of which the second is the answer
+  two_refusals : (e x : Refusal) → PlanOf a.words files (Err x) → AreAlike (Err e) (Err x) ⊎ (NamesDivisorIn a.words files (Err e) ⊎ NamesDivisorIn a.words files (Err x)) → IsAnsweredBy a.words files e.status x.status
+  two_refusals e x is (inl h) = inl (subst (λ (y : Refusal). IsAlike e.status y.status) (sym (ap (refusal_or x) h.1)) h.2)
+  two_refusals e x is (inr (inl d)) = inr (inr (inl d))
+  two_refusals e x is (inr (inr d)) = inr (inr (inr (d, (x.name, is))))
 
   module _ (e : Refusal) (refused : PlanOf a.words files (Err e)) (quiet : ¬ (Rose a.faults a.faults_after)) where
-    also_refused : (s : Status) (name : Bytes) → IfTold a.held (AreRefusedAs a.words s name) → IsAnsweredBy a.words files e.status s
-    also_refused s name h =
+    also_planned : (s : Status) (P : Plan → Type 0) → HavePlan a.words P files → IsAnsweredBy a.words files e.status s
+    also_planned s P found = inr (inr (inl (plan_or_refusal found.plan e (agree a.words files (Ok found.plan) (Err e) found.is refused))))
+
+    also_refused : (s : Status) (name : Bytes) → AreRefusedAs a.words s name files → IsAnsweredBy a.words files e.status s
+    also_refused s name is =
         let x : Refusal = record { status = s; name = name } in
-        two_refusals e x (agree a.words files (Err e) (Err x) refused (told_at a.held files (AreRefusedAs a.words s name) told h))
+        two_refusals e x is (agree a.words files (Err e) (Err x) refused is)
+
+    also_stopped : (fault : Composite) → IsStopped a.words fault files → IsAnsweredBy a.words files e.status (status.Composite fault)
+    also_stopped fault (inl refusal) = also_refused (status.Composite fault) refusal.0 refusal.1
+    also_stopped fault (inr found) = also_planned (status.Composite fault) (λ plan. IsDivisor plan.modulus fault.divisor) found
+
+    also_named : (s : Status) (name : Bytes) → IsRefusal a s name → IsAnsweredBy a.words files e.status s
+    also_named s name h = also_refused s name (told_at a.held files (AreRefusedAs a.words s name) told h.0)
 
     -- the first refusal is the answer
     pub refusal_answered : (s : Status) (name : Bytes) → HasCause a s name → IsAnsweredBy a.words files e.status s
-    refusal_answered status.Ok name h = inr (inr (refused_and_planned e refused _ h.0))
-    refusal_answered status.WriteFault name h = inr (inr (refused_and_planned e refused _ h.0))
-    refusal_answered (status.Composite f) name h = inr (inr (f.divisor, told_at a.held files (IsDivisorIn a.words f.divisor) told h))
+    refusal_answered status.Ok name h = also_planned status.Ok _ (told_at a.held files _ told h.0)
+    refusal_answered status.WriteFault name h = also_planned status.WriteFault _ (told_at a.held files _ told h.0)
+    refusal_answered (status.Composite f) name h = also_stopped f (told_at a.held files (IsStopped a.words f) told h.0)
     refusal_answered status.ReadFault name h = absurd (quiet h)
     refusal_answered status.OutOfMemory name h = inr (inl refl)
-    refusal_answered (status.Input f) name h = also_refused (status.Input f) name h
-    refusal_answered (status.Singular c) name h = also_refused (status.Singular c) name h
-    refusal_answered (status.RulesClash m r) name h = also_refused (status.RulesClash m r) name h
-    refusal_answered (status.TooMany what count) name h = also_refused (status.TooMany what count) name h
-    refusal_answered status.Usage name h = also_refused status.Usage name h.1
-    refusal_answered status.NotYet name h = also_refused status.NotYet name h.1
+    refusal_answered (status.Input f) name h = also_named (status.Input f) name h
+    refusal_answered (status.Singular c) name h = also_named (status.Singular c) name h
+    refusal_answered (status.RulesClash m r) name h = also_named (status.RulesClash m r) name h
+    refusal_answered (status.TooMany what count) name h = also_named (status.TooMany what count) name h
+    refusal_answered status.Usage name h = also_named status.Usage name h.1
+    refusal_answered status.NotYet name h = also_named status.NotYet name h.1
 
   module _ (plan : Plan) (is : PlanOf a.words files (Ok plan)) (prime : IsPrime plan.modulus) (quiet : ¬ (Rose a.faults a.faults_after)) (calm : ¬ (Rose a.out_faults a.out_faults_after)) where
-    none_divides : Divisible → ⊥
-    none_divides d = no_divisor plan.modulus d.0 prime (one a.words files plan d.0 is d.1)
+    none_divides : (divisor : ℕ) → IsDivisorIn a.words divisor files → ⊥
+    none_divides divisor d = no_divisor plan.modulus divisor prime (one a.words files plan divisor is d)
 
-    none_refused : (s : Status) (name : Bytes) → IfTold a.held (AreRefusedAs a.words s name) → ⊥
-    none_refused s name h =
+    none_refused : (s : Status) (name : Bytes) → AreRefusedAs a.words s name files → ⊥
+    none_refused s name refused =
         let x : Refusal = record { status = s; name = name } in
-        none_divides (plan_or_refusal plan x (agree a.words files (Ok plan) (Err x) is (told_at a.held files (AreRefusedAs a.words s name) told h)))
+        let d = plan_or_refusal plan x (agree a.words files (Ok plan) (Err x) is refused) in
+        none_divides d.0.divisor d.2
+
+    none_stops : (fault : Composite) → IsStopped a.words fault files → ⊥
+    none_stops fault (inl refusal) = none_refused (status.Composite fault) refusal.0 refusal.1
+    none_stops fault (inr found) = none_divides fault.divisor (divisor_of_plan a.words files found.plan fault.divisor found.is found.holds)
+
+    none_named : (s : Status) (name : Bytes) → IsRefusal a s name → ⊥
+    none_named s name h = none_refused s name (told_at a.held files (AreRefusedAs a.words s name) told h.0)
 
     -- a job with a plan has a table
     pub complete : (s : Status) (name : Bytes) → HasCause a s name → (s ≡ status.Ok) ⊎ (s ≡ status.OutOfMemory)
     complete status.Ok name h = inl refl
     complete status.WriteFault name h = absurd (calm h.1)
-    complete (status.Composite f) name h = absurd (none_divides (f.divisor, told_at a.held files (IsDivisorIn a.words f.divisor) told h))
+    complete (status.Composite f) name h = absurd (none_stops f (told_at a.held files (IsStopped a.words f) told h.0))
     complete status.ReadFault name h = absurd (quiet h)
     complete status.OutOfMemory name h = inr refl
-    complete (status.Input f) name h = absurd (none_refused (status.Input f) name h)
-    complete (status.Singular c) name h = absurd (none_refused (status.Singular c) name h)
-    complete (status.RulesClash m r) name h = absurd (none_refused (status.RulesClash m r) name h)
-    complete (status.TooMany what count) name h = absurd (none_refused (status.TooMany what count) name h)
-    complete status.Usage name h = absurd (none_refused status.Usage name h.1)
-    complete status.NotYet name h = absurd (none_refused status.NotYet name h.1)
+    complete (status.Input f) name h = absurd (none_named (status.Input f) name h)
+    complete (status.Singular c) name h = absurd (none_named (status.Singular c) name h)
+    complete (status.RulesClash m r) name h = absurd (none_named (status.RulesClash m r) name h)
+    complete (status.TooMany what count) name h = absurd (none_named (status.TooMany what count) name h)
+    complete status.Usage name h = absurd (none_named status.Usage name h.1)
+    complete status.NotYet name h = absurd (none_named status.NotYet name h.1)
+
+-- ---- the counts, and the divisors
+
+pub counted_by : (a : Around) (s : Status) (name : Bytes) → HasCause a s name → IsCounted a.held a.faults a.faults_after s
+counted_by a status.Ok name h = inl h.1
+counted_by a status.WriteFault name h = inl h.2
+counted_by a (status.Composite f) name h = inl h.1
+counted_by a status.ReadFault name h = h
+counted_by a status.OutOfMemory name h = tt
+counted_by a (status.Input f) name h = h.1
+counted_by a (status.Singular c) name h = h.1
+counted_by a (status.RulesClash m r) name h = h.1
+counted_by a (status.TooMany what count) name h = h.1
+counted_by a status.Usage name h = h.1.1
+counted_by a status.NotYet name h = h.1.1
+
+-- an inverse that isn't there has a divisor of the modulus
+pub divisor_told : JobsNameDivisors → (a : Around) (s : Status) (name : Bytes) → HasCause a s name → (fault : Composite) → s ≡ status.Composite fault → IfTold a.held (IsDivisorIn a.words fault.divisor)
+divisor_told law a s name h fault is =
+    let cause : HasCause a (status.Composite fault) name = subst (λ (t : Status). HasCause a t name) is h in
+    weaker a.held (IsStopped a.words fault) (IsDivisorIn a.words fault.divisor) by cause.0
+  where
+    by : (files : Held) → IsStopped a.words fault files → IsDivisorIn a.words fault.divisor files
+    by files (inl refusal) = law a.words files (record { status = status.Composite fault; name = refusal.0 }) fault refusal.1 refl
+    by files (inr found) = divisor_of_plan a.words files found.plan fault.divisor found.is found.holds

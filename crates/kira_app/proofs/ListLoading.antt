@@ -14,7 +14,7 @@ use Rattle.job_point.specs.Steps.{Is, Each}
 use Rattle.kira_app.specs.Steps.{Answer, texts_of}
 use Rattle.kira_app.specs.Told.{IfTold, RefusesTold, Tells}
 use Rattle.kira_app.specs.Sources.{list_of, ListsOf}
-use Rattle.kira_app.proofs.Told.{both, by_status, then_is, then_refused}
+use Rattle.kira_app.proofs.Told.{both, by_status, still_from, then_is, then_refused}
 
 abbrev Step : Held → List Bytes → ListFile → Steps.Step Bytes
 Step held found list = Is (list_of (length found) list.name held)
@@ -81,10 +81,13 @@ module _ (held held' : Option Held) (before before' now : ℕ) (files : List Lis
   pub stops_listed : (e : Refusal) → Tells held' before' now List_at (Err e) → RefusesTold held before now (ListsOf files) e
   stops_listed e h =
       by_status e.status _ _ _ _ (λ rose. subst (λ b. Rose b now) count rose)
-      (λ k. both held (HasListed files found) (λ f. list_of number name f ≡ Err e) (λ f. ListsOf files f (Err e))
-      (λ f listed is. list_refused files found e f (subst (λ n. n < length files) (sym size) inside) listed
-      (subst (λ n. list_of n (list_at files n) f ≡ Err e) (sym size) (subst (λ (x : Bytes). list_of number x f ≡ Err e) is_name is)))
-      told (subst (λ (o : Option Held). IfTold o (λ f. list_of number name f ≡ Err e)) same k)) h
+      (λ k. (
+        both held (HasListed files found) (λ f. list_of number name f ≡ Err e) (λ f. ListsOf files f (Err e))
+            (λ f listed is. list_refused files found e f (subst (λ n. n < length files) (sym size) inside) listed
+            (subst (λ n. list_of n (list_at files n) f ≡ Err e) (sym size) (subst (λ (x : Bytes). list_of number x f ≡ Err e) is_name is)))
+            told (subst (λ (o : Option Held). IfTold o (λ f. list_of number name f ≡ Err e)) same k.0),
+        still_from held held' before before' now e.status same count k.1,
+      )) h
 
 -- what `?` answers for a refusal, where the answer is a vector of texts
 pub err_texts : {Y Z : Type 0} (held : Option Held) (before now : ℕ) (whole : Held → Steps.Step (List Bytes)) (r : Result (Vec (Vec ℕ Y) Z) Refusal) (e : Refusal) →

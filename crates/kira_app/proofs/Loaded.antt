@@ -8,16 +8,16 @@ use Rattle.yaml_text.specs.declared.tree.Tree.{Tree}
 use Rattle.yaml_text.specs.Blocks.{reading}
 use Rattle.yaml_text.specs.Lines.{Bytes}
 use Rattle.kira_outside.specs.Faults.{Rose}
-use Rattle.kira_outside.specs.Held.{Held, LoadGives}
+use Rattle.kira_outside.specs.Held.{Held, LoadGives, LacksName}
 use Rattle.input_schema.specs.declared.faults.File.{File}
-use Rattle.input_schema.specs.declared.faults.InputKind.TheVariants.{TooLong}
+use Rattle.input_schema.specs.declared.faults.InputKind.TheVariants.{Missing, TooLong}
 use Rattle.input_schema.specs.Readings as input
 use Rattle.kira_app.specs.declared.status.Status.{Status}
 use Rattle.kira_app.specs.declared.status.Status.TheVariants as status
 use Rattle.kira_app.specs.declared.refusal.Refusal.{Refusal}
 use Rattle.job_point.specs.Steps.{Is}
 use Rattle.kira_app.specs.Steps.{OfReading, plainly}
-use Rattle.kira_app.specs.Told.{IfTold, ByStatus, Answers, RefusesTold, Tells}
+use Rattle.kira_app.specs.Told.{IfTold, ByStatus, SaysMissing, IsStill, Answers, RefusesTold, Tells}
 use Rattle.kira_app.specs.Sources.{tree_from, tree_in, tree_of_entry, TreeOf, no_list, list_of_entry, list_of}
 use Rattle.kira_app.proofs.Told.{weaker, next_answers}
 
@@ -65,10 +65,26 @@ list_loaded held before now number name bytes given count few = (
   count,
 )
 
-pub list_too_long : (held : Option Held) (before now number : ℕ) (name bytes : Bytes) (refusal : Refusal) → LoadGives held name 16777217 bytes → 16777216 < length bytes →
-    (refusal ≡ no_list number name TooLong) ⊎ (refusal.status ≡ status.OutOfMemory) → RefusesTold held before now (λ files. Is (list_of number name files)) refusal
-list_too_long held before now number name bytes refusal given many (inl e) =
+-- a file that isn't held, where files are told, and otherwise one that was counted
+not_held : (held : Option Held) (before now : ℕ) (name : Bytes) (s : Status) (P : Held → Type 0) → SaysMissing s → ((files : Held) → map.get files name ≡ None → P files) →
+    LacksName before now held name → IfTold held P × IsStill held before now s
+not_held None before now name s P says go rose = (tt, inr (says, (refl, rose)))
+not_held (Some files) before now name s P says go (gone, count) = (go files gone, inl count)
+
+pub list_missing : (held : Option Held) (before now number : ℕ) (name : Bytes) (refusal : Refusal) → LacksName before now held name →
+    (refusal ≡ no_list number name Missing) ⊎ (refusal.status ≡ status.OutOfMemory) → RefusesTold held before now (λ files. Is (list_of number name files)) refusal
+list_missing held before now number name refusal lacks (inl e) =
     subst (λ (r : Refusal). RefusesTold held before now (λ files. Is (list_of number name files)) r) (sym e)
-    (weaker held (λ files. IsSomeAnd (map.get files name) (λ whole. bytes ≡ take 16777217 whole)) (λ files. list_of number name files ≡ Err (no_list number name TooLong)) (λ files here. list_long number name (map.get files name) bytes here many) given)
-list_too_long held before now number name bytes refusal given many (inr e) =
-    subst (λ (s : Status). ByStatus s (Rose before now) (IfTold held (λ files. list_of number name files ≡ Err refusal))) (sym e) tt
+    (not_held held before now name (no_list number name Missing).status (λ files. list_of number name files ≡ Err (no_list number name Missing)) refl (λ files gone. ap (list_of_entry number name) gone) lacks)
+list_missing held before now number name refusal lacks (inr e) =
+    subst (λ (s : Status). ByStatus s (Rose before now) (IfTold held (λ files. list_of number name files ≡ Err refusal) × IsStill held before now refusal.status)) (sym e) tt
+
+pub list_too_long : (held : Option Held) (before now number : ℕ) (name bytes : Bytes) (refusal : Refusal) → LoadGives held name 16777217 bytes → now ≡ before → 16777216 < length bytes →
+    (refusal ≡ no_list number name TooLong) ⊎ (refusal.status ≡ status.OutOfMemory) → RefusesTold held before now (λ files. Is (list_of number name files)) refusal
+list_too_long held before now number name bytes refusal given count many (inl e) =
+    subst (λ (r : Refusal). RefusesTold held before now (λ files. Is (list_of number name files)) r) (sym e) (
+      weaker held (λ files. IsSomeAnd (map.get files name) (λ whole. bytes ≡ take 16777217 whole)) (λ files. list_of number name files ≡ Err (no_list number name TooLong)) (λ files here. list_long number name (map.get files name) bytes here many) given,
+      inl count,
+    )
+list_too_long held before now number name bytes refusal given count many (inr e) =
+    subst (λ (s : Status). ByStatus s (Rose before now) (IfTold held (λ files. list_of number name files ≡ Err refusal) × IsStill held before now refusal.status)) (sym e) tt

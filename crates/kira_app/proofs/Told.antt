@@ -1,5 +1,5 @@
 -- Steps that read files, one after another.
-use Rattle.std.proofs.Common.{◌≡◌, ℕ, Option, None, Some, Result, Ok, Err, IfErr, refl, sym, subst}
+use Rattle.std.proofs.Common.{◌≡◌, inl, inr, ℕ, Option, None, Some, Result, Ok, Err, IfErr, refl, sym, subst}
 use Rattle.std.specs.Result.{IsErrAnd}
 use Rattle.kira_outside.specs.Held.{Held}
 use Rattle.kira_app.specs.declared.status.Status.{Status}
@@ -7,7 +7,7 @@ use Rattle.kira_app.specs.declared.status.Status.TheVariants as status
 use Rattle.kira_app.specs.declared.refusal.Refusal.{Refusal}
 use Rattle.job_point.specs.Steps.{Then}
 use Rattle.kira_app.specs.Steps.{Answer, Step, plain, plainly}
-use Rattle.kira_app.specs.Told.{IfTold, ByStatus, SaysMissing, Refuses, Answers, RefusesTold, Tells}
+use Rattle.kira_app.specs.Told.{IfTold, ByStatus, SaysMissing, IsStill, Refuses, Answers, RefusesTold, Tells}
 
 -- what is told of one step is told of another that follows from it
 pub weaker : (held : Option Held) (P Q : Held → Type 0) → ((files : Held) → P files → Q files) → IfTold held P → IfTold held Q
@@ -36,6 +36,15 @@ by_status (status.TooMany what count) failed failed' refused refused' go on h = 
 by_status status.Usage failed failed' refused refused' go on h = h
 by_status status.NotYet failed failed' refused refused' go on h = h
 
+-- no load has failed, from another moment on at which the files stood as before
+pub still_from : (held held' : Option Held) (before before' now : ℕ) (s : Status) → held' ≡ held → before' ≡ before → IsStill held' before' now s → IsStill held before now s
+still_from held held' before before' now s same count h = subst (λ b. IsStill held b now s) count (subst (λ (o : Option Held). IsStill o before' now s) same h)
+
+-- a status that no missing file has
+pub still_count : (held : Option Held) (before now : ℕ) (s : Status) → (SaysMissing s → ⊥) → IsStill held before now s → now ≡ before
+still_count held before now s present (inl count) = count
+still_count held before now s present (inr missed) = absurd (present missed.0)
+
 -- ---- one step and what follows it
 
 pub then_is : {A B : Type 0} (first : Step A) (next : A → Step B) (a : A) (r : Answer B) → first (Ok a) → next a r → Then first next r
@@ -47,7 +56,7 @@ then_refused first next e h = record { answer = Err e; is = h; after = refl }
 -- the first step is refused
 pub refused_first : {A B : Type 0} (held : Option Held) (before now : ℕ) (first : Held → Step A) (whole : Held → Step B) →
     ((files : Held) (e : Refusal) → first files (Err e) → whole files (Err e)) → (e : Refusal) → RefusesTold held before now first e → RefusesTold held before now whole e
-refused_first held before now first whole stays e = by_status e.status _ _ _ _ (λ f. f) (weaker held _ _ (λ files h. stays files e h))
+refused_first held before now first whole stays e = by_status e.status _ _ _ _ (λ f. f) (λ h. (weaker held _ _ (λ files h. stays files e h) h.0, h.1))
 
 -- the first step has a value, and the next one that reads files answers this, where the count stood and the files
 -- were told as before
@@ -58,13 +67,13 @@ next_tells {A} held held' before before' now P next whole r same count goes foun
   where
     at : (r : Answer A) → Tells held before now next r → Tells held before now whole r
     at (Ok a) h = (both held _ _ _ (λ files p n. goes files (Ok a) p n) found h.0, h.1)
-    at (Err e) h = by_status e.status _ _ _ _ (λ f. f) (both held _ _ _ (λ files p n. goes files (Err e) p n) found) h
+    at (Err e) h = by_status e.status _ _ _ _ (λ f. f) (λ h. (both held _ _ _ (λ files p n. goes files (Err e) p n) found h.0, h.1)) h
 
 -- the same for a next step that reads no files
 pub next_answers : {A : Type 0} (held : Option Held) (before now : ℕ) (P : Held → Type 0) (next : Step A) (whole : Held → Step A) (r : Answer A) →
     now ≡ before → ((files : Held) (o : Answer A) → P files → next o → whole files o) → IfTold held P → Answers next r → Tells held before now whole r
 next_answers held before now P next whole (Ok a) count goes found h = (weaker held _ _ (λ files p. goes files (Ok a) p h) found, count)
-next_answers held before now P next whole (Err e) count goes found h = by_status e.status _ _ _ _ (λ no. absurd no) (λ n. weaker held _ _ (λ files p. goes files (Err e) p n) found) h
+next_answers held before now P next whole (Err e) count goes found h = by_status e.status _ _ _ _ (λ no. absurd no) (λ n. (weaker held _ _ (λ files p. goes files (Err e) p n) found, inl count)) h
 
 -- ---- what `?` answers for an error of a step
 
@@ -106,9 +115,9 @@ answers_later first next a (Err e) is h = refused_later first next a e is h
 
 -- what was told, and then the refusal of a step that reads no files
 pub told_later : {A B : Type 0} (held : Option Held) (before now : ℕ) (first : Held → Step A) (next : A → Step B) (a : A) (e : Refusal) →
-    IfTold held (λ files. first files (Ok a)) → Refuses (next a) e → RefusesTold held before now (λ files. Then (first files) next) e
-told_later held before now first next a e found h =
-    by_status e.status _ _ _ _ (λ no. absurd no) (λ k. weaker held _ _ (λ files is. then_is (first files) next a (Err e) is k) found) h
+    now ≡ before → IfTold held (λ files. first files (Ok a)) → Refuses (next a) e → RefusesTold held before now (λ files. Then (first files) next) e
+told_later held before now first next a e count found h =
+    by_status e.status _ _ _ _ (λ no. absurd no) (λ k. (weaker held _ _ (λ files is. then_is (first files) next a (Err e) is k) found, inl count)) h
 
 -- a status that says that a file is missing is that of a step
 pub missing_said : (s : Status) (failed refused : Type 0) → SaysMissing s → ByStatus s failed refused → refused

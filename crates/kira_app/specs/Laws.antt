@@ -8,7 +8,7 @@ use Rattle.kira_app.specs.declared.status.Status.TheVariants as status
 use Rattle.kira_app.specs.declared.refusal.Refusal.{Refusal}
 use Rattle.kira_app.specs.Steps.{Answer}
 use Rattle.kira_app.specs.Plans.{PlanOf}
-use Rattle.kira_app.specs.TopClauses.{IsAlike, IsDivisor, IsDivisorIn}
+use Rattle.kira_app.specs.TopClauses.{IsAlike, IsDivisor, IsDivisorIn, NamesDivisor}
 
 -- the same plan, or statuses that are equal but for the vector or the multipliers that they show
 abbrev pub AreAlike : Answer Plan → Answer Plan → Type 0
@@ -18,7 +18,7 @@ AreAlike (Err refusal) r = (other : Refusal) × (r ≡ Err other) × IsAlike ref
 -- the answer names a divisor of the modulus that the job names
 abbrev pub NamesDivisorIn : List Bytes → Held → Answer Plan → Type 0
 NamesDivisorIn words held (Ok plan) = ⊥
-NamesDivisorIn words held (Err refusal) = (fault : Composite) × (refusal.status ≡ status.Composite fault) × IsDivisorIn words fault.divisor held
+NamesDivisorIn words held (Err refusal) = NamesDivisor words held refusal.status
 
 -- Any two answers for the same words and files are alike, but where one of them names a divisor of the modulus.
 abbrev pub JobsAgree : Type 0

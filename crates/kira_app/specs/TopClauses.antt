@@ -2,6 +2,7 @@
 use Rattle.std.specs.Prelude.{◌≡◌, ◌≢◌, ◌⊎◌, ◌<◌, ⊤, ℕ, List, [], length, ◌+◌, Result, Option, option_map, Ok, Err}
 use Rattle.std.specs.Int.{◌∣◌}
 use Rattle.yaml_text.specs.Lines.{Bytes}
+use Rattle.field_word.specs.declared.Composite.{Composite}
 use Rattle.integral_index.specs.declared.Unit.{Unit as SectorUnit}
 use Rattle.sparse_row.specs.Row.{Row}
 use Rattle.sparse_row.specs.ReducedList.{IsReduced}
@@ -22,7 +23,7 @@ use Rattle.kira_app.specs.declared.status.Status.{Status}
 use Rattle.kira_app.specs.declared.status.Status.TheVariants as status
 use Rattle.kira_app.specs.declared.refusal.Refusal.{Refusal}
 use Rattle.kira_app.specs.Message.{message_text, usage_line, IsToldOf}
-use Rattle.kira_app.specs.Told.{IfTold}
+use Rattle.kira_app.specs.Told.{IfTold, IsStill}
 use Rattle.kira_app.specs.Words.{AsksUsage, AsksUnserved, job_file, overrides_of}
 use Rattle.kira_app.specs.Sources.{TreesOf, OutlineOf}
 use Rattle.kira_app.specs.Plans.{PlanOf}
@@ -114,6 +115,14 @@ pub record IsDivisorIn (words : List Bytes) (divisor : ℕ) (held : Held) : Type
   pub outlined : OutlineOf (overrides_of words) trees (Ok outline)
   pub divides : IsDivisor outline.point.prime divisor
 
+-- The status names a divisor of the modulus that the job names.
+abbrev pub NamesDivisor : List Bytes → Held → Status → Type 0
+NamesDivisor words held s = (fault : Composite) × (s ≡ status.Composite fault) × IsDivisorIn words fault.divisor held
+
+-- A step of the plan inverts, and this is its refusal, or there is a plan and the divisor is one of its modulus.
+abbrev pub IsStopped : List Bytes → Composite → Held → Type 0
+IsStopped words fault held = AreRefused words (status.Composite fault) held ⊎ HavePlan words (λ plan. IsDivisor plan.modulus fault.divisor) held
+
 -- the only divisors of p are 1 and p
 pub record IsPrime (p : ℕ) : Type 0 where
   pub above_1 : 1 < p
@@ -141,9 +150,9 @@ pub record Around : Type 0 where
   pub steps : ℕ
   pub steps_after : ℕ
 
--- the words and the files are told, and have this first refusal
+-- where the files are told, this is the first refusal, and no load has failed
 abbrev pub IsRefusal : Around → Status → Bytes → Type 0
-IsRefusal a s name = IfTold a.held (AreRefusedAs a.words s name)
+IsRefusal a s name = IfTold a.held (AreRefusedAs a.words s name) × IsStill a.held a.faults a.faults_after s
 
 -- the sink was sent the whole text, and each unit took a step
 abbrev pub IsSentStepwise : Around → Plan → Type 0
@@ -156,8 +165,8 @@ IsPartlySentStepwise a plan = IsPartlySent a.told a.told_after plan × TakesUnit
 -- each answer comes by its cause. A message that names a list file or a family has the name.
 abbrev pub HasCause : Around → Status → Bytes → Type 0
 HasCause a status.Ok name = IfTold a.held (HavePlan a.words (IsSentStepwise a)) × (a.faults_after ≡ a.faults) × (a.out_faults_after ≡ a.out_faults)
-HasCause a status.WriteFault name = IfTold a.held (HavePlan a.words (IsPartlySentStepwise a)) × Rose a.out_faults a.out_faults_after
-HasCause a (status.Composite fault) name = IfTold a.held (IsDivisorIn a.words fault.divisor)
+HasCause a status.WriteFault name = IfTold a.held (HavePlan a.words (IsPartlySentStepwise a)) × Rose a.out_faults a.out_faults_after × (a.faults_after ≡ a.faults)
+HasCause a (status.Composite fault) name = IfTold a.held (IsStopped a.words fault) × (a.faults_after ≡ a.faults)
 HasCause a status.ReadFault name = Rose a.faults a.faults_after
 HasCause a status.OutOfMemory name = ⊤
 HasCause a (status.Input fault) name = IsRefusal a (status.Input fault) name
@@ -198,6 +207,8 @@ IsAlike (status.Singular (singular.NotBasis family vector)) s = (other : List �
 IsAlike (status.RulesClash multipliers residue) s = (others : List ℕ) × (other : ℕ) × (s ≡ status.RulesClash others other)
 IsAlike one s = s ≡ one
 
--- The refusal is the answer, but for want of memory, and for a divisor of the modulus, which a prime doesn't have.
+-- The refusal is the answer, but for want of memory. Where the refusal is that an inverse isn't there, another step or
+-- the reduction may answer first; and where the answer is that, it is a first refusal too. A prime has no such divisor.
 abbrev pub IsAnsweredBy : List Bytes → Held → Status → Status → Type 0
-IsAnsweredBy words held refusal s = IsAlike refusal s ⊎ ((s ≡ status.OutOfMemory) ⊎ ((divisor : ℕ) × IsDivisorIn words divisor held))
+IsAnsweredBy words held refusal s =
+    IsAlike refusal s ⊎ ((s ≡ status.OutOfMemory) ⊎ (NamesDivisor words held refusal ⊎ (NamesDivisor words held s × AreRefused words s held)))

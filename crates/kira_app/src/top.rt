@@ -13,10 +13,10 @@ ghost use Rattle.table_text.specs.Sending.{sent, IsPrefixSent};
 ghost use Rattle.kira_app.specs.declared.status.Status.{Status as StatusValue};
 ghost use Rattle.kira_app.specs.Steps.{plain};
 ghost use Rattle.kira_app.specs.Message.{message_text, usage_line, IsToldOf};
-ghost use Rattle.kira_app.specs.Told.{IfTold, Tells, IsMissed};
+ghost use Rattle.kira_app.specs.Told.{IfTold, Tells, IsMissed, IsCounted};
 ghost use Rattle.kira_app.specs.Words.{AsksCall, AsksHelp, AsksUsage, AsksJob, AsksUnserved, AreAnswered, IsServedJob};
 ghost use Rattle.kira_app.specs.Plans.{PlanOf};
-ghost use Rattle.kira_app.specs.TopClauses.{IsTextOf, IsSent, IsPartlySent, TakesUnits, StandsStill, HavePlan, AreRefused, IsDivisorIn, IsPrime, HasCause, HasEnded, HasShown, IsExplained, IsAnsweredBy};
+ghost use Rattle.kira_app.specs.TopClauses.{IsTextOf, IsSent, IsPartlySent, TakesUnits, StandsStill, HavePlan, AreRefused, IsDivisorIn, IsStopped, IsPrime, HasCause, HasEnded, HasShown, IsExplained, IsAnsweredBy};
 
 use crate::laws::jobs_agree;
 use crate::loading::sources;
@@ -145,9 +145,11 @@ pub fn kira_alone<F: Files, O: Sink, E: Sink, L: Ledger>(
         → IfTold (F.held files.old) (AreRefused (map string_bytes words.now) (Status.RulesClash multipliers residue)) }
     ensures too_many { (what : Excess) (count : ℕ) → result ≡ Status.TooMany what count
         → IfTold (F.held files.old) (AreRefused (map string_bytes words.now) (Status.TooMany what count)) }
-    ensures composite { (fault : CompositeValue) → result ≡ Status.Composite fault → IfTold (F.held files.old) (IsDivisorIn (map string_bytes words.now) fault.divisor) }
+    ensures composite { (fault : CompositeValue) → result ≡ Status.Composite fault → IfTold (F.held files.old) (IsStopped (map string_bytes words.now) fault) }
+    ensures divisor { (fault : CompositeValue) → result ≡ Status.Composite fault → IfTold (F.held files.old) (IsDivisorIn (map string_bytes words.now) fault.divisor) }
     ensures read_fault { result ≡ Status.ReadFault → Rose (F.faults files.old) (F.faults files.new) }
     ensures write_fault { AsksCall (map string_bytes words.now) → result ≡ Status.WriteFault → IfTold (F.held files.old) (HavePlan (map string_bytes words.now) (IsPartlySent (O.told out.old) (O.told out.new))) }
+    ensures counted { IsCounted (F.held files.old) (F.faults files.old) (F.faults files.new) result }
     ensures out_failed { result ≡ Status.WriteFault → Rose (O.faults out.old) (O.faults out.new) }
 
     // And where the cause is there, the answer comes.

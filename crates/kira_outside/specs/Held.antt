@@ -17,6 +17,6 @@ LoadGives held name most bytes = MatchOption held ⊤ (λ files. IsSomeAnd (map.
 abbrev pub HoldsName : Option Held → List ℕ → Type 0
 HoldsName held name = MatchOption held ⊤ (λ files. IsSome (map.get files name))
 
--- the file isn't held, where the names are told; where they aren't, the count of faults rose
+-- the file isn't held and no fault was counted, where the names are told; where they aren't, one was
 abbrev pub LacksName : ℕ → ℕ → Option Held → List ℕ → Type 0
-LacksName before now held name = MatchOption held (Rose before now) (λ files. map.get files name ≡ None)
+LacksName before now held name = MatchOption held (Rose before now) (λ files. (map.get files name ≡ None) × (now ≡ before))

@@ -12,7 +12,7 @@ pub trait Files {
     /// The names that it holds with their bytes, where it tells.
     ghost held: { Self → Option Held };
 
-    /// How often a call has failed. At its last value, 2 ^ 64 - 1, it stays.
+    /// How often a call has failed. Each failing call adds one, but at its last value, 2 ^ 64 - 1, it stays.
     ghost faults: { Self → ℕ };
 
     /// The first `most` bytes of the file, or all where it has fewer. Where the names are told, it is
@@ -25,5 +25,6 @@ pub trait Files {
         ensures same { held self.new ≡ held self.old }
         ensures failed { IsErrOf result LoadFault.Failed → Rose (faults self.old) (faults self.new) }
         ensures ok_count { OnOk result (faults self.new ≡ faults self.old) }
+        ensures memory_count { IsErrOf result LoadFault.OutOfMemory → faults self.new ≡ faults self.old }
         ensures never_falls { faults self.old ≤ faults self.new };
 }

@@ -67,6 +67,7 @@ impl Files for MemoryFiles {
         ensures same { Some self.new.held ≡ Some self.old.held }
         ensures failed { IsErrOf result LoadFault.Failed → Rose self.old.faults self.new.faults }
         ensures ok_count { OnOk result (self.new.faults ≡ self.old.faults) }
+        ensures memory_count { IsErrOf result LoadFault.OutOfMemory → self.new.faults ≡ self.old.faults }
         ensures never_falls { self.old.faults ≤ self.new.faults }
 
         // It fails by its list alone, counts no other fault, and each call has the next number.

@@ -11,7 +11,7 @@ pub trait Sink {
     /// The bytes written, and how many of them the last successful flush found, where it tells.
     ghost told: { Self → Option Stream };
 
-    /// How often a call has failed. At its last value, 2 ^ 64 - 1, it stays.
+    /// How often a call has failed. Each failing call adds one, but at its last value, 2 ^ 64 - 1, it stays.
     ghost faults: { Self → ℕ };
 
     /// Takes the first bytes of the piece, at least one where there is one, and says how many.

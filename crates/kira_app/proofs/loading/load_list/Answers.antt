@@ -14,5 +14,5 @@ pub returns-in-Ok-2-clause-list : goal.returns-in-Ok-2-clause-list
 returns-in-Ok-2-clause-list g c =
     let size : c.len.result ≡ c.in-Ok.bytes.len = c.len.ensures in
     let many : 16777216 < length c.in-Ok.bytes.items = omega (arith, c.if-len-le-MOST_BYTES.false, size, c.in-Ok.bytes.ok.0) in
-    list_too_long (g.F.Files.held c.args.files.now) _ _ c.args.number c.args.name.now c.in-Ok.bytes.items c.named.result c.in-Ok.ensures.bytes many
+    list_too_long (g.F.Files.held c.args.files.now) _ _ c.args.number c.args.name.now c.in-Ok.bytes.items c.named.result c.in-Ok.ensures.bytes c.in-Ok.ensures.ok_count many
     (subst (λ (s : Status). (c.named.result ≡ record { status = s; name = c.args.name.now }) ⊎ (c.named.result.status ≡ status.OutOfMemory)) c.input_fault.ensures c.named.ensures)

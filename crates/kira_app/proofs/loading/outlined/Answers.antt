@@ -23,7 +23,7 @@ returns-in_err-trees-clause-missing g c = of_error _ _ (IsMissed _ _ _) c.from_r
 pub returns-in_err-outline-clause-outlines : goal.returns-in_err-outline-clause-outlines
 returns-in_err-outline-clause-outlines g c =
     err_plain _ _ _ (Outlines c.args.overrides.now c.args.jobfile.now) _ _ c.from_residual-in_err-outline.ensures.1
-    (told_later _ _ _ (TreesOf c.args.jobfile.now) (Outlined c.args.overrides.now) c.in_ok-trees.trees (plain _) c.in_ok-trees.ensures.trees.0
+    (told_later _ _ _ (TreesOf c.args.jobfile.now) (Outlined c.args.overrides.now) c.in_ok-trees.trees (plain _) c.in_ok-trees.ensures.trees.1 c.in_ok-trees.ensures.trees.0
     (refused_then (OutlineOf c.args.overrides.now c.in_ok-trees.trees) (Both c.in_ok-trees.trees) (plain _) c.in_err-outline.ensures))
 
 pub returns-in_err-outline-clause-missing : goal.returns-in_err-outline-clause-missing

@@ -9,14 +9,14 @@ pub returns-in_err-plan-clause-cause : goal.returns-in_err-plan-clause-cause
 returns-in_err-plan-clause-cause g c =
     λ words is.
     let refusal = c.in_err-plan.field-0.0 in
-    err_ended _ _ refusal c.from_residual.ensures.1 (plan_caused c.jobs_agree.ensures.divisors _ refusal.status refusal.name (c.in_err-plan.ensures.plan words is))
+    err_ended _ _ refusal c.from_residual.ensures.1 (plan_caused _ refusal.status refusal.name (c.in_err-plan.ensures.plan words is))
 
 pub returns-in_err-plan-clause-missing : goal.returns-in_err-plan-clause-missing
 returns-in_err-plan-clause-missing g c = err_refusal _ _ (λ (r : Refusal). IsMissed _ _ _ r.status) c.from_residual.ensures.1 c.in_err-plan.ensures.missing
 
 pub returns-clause-cause : goal.returns-clause-cause
 returns-clause-cause g c =
-    λ words is. plainly_caused _ c.in-Err.status _ c.plain-in-Err.ensures (reduction_caused _ c.in_ok-plan.plan c.in-Err.status (c.in_ok-plan.ensures.plan words is).0 c.in-Err.ensures.cause)
+    λ words is. plainly_caused _ c.in-Err.status _ c.plain-in-Err.ensures (reduction_caused _ c.in_ok-plan.plan c.in-Err.status (c.in_ok-plan.ensures.plan words is).0 (c.in_ok-plan.ensures.plan words is).1 c.in-Err.ensures.cause)
 
 pub returns-in_err-plan-clause-still : goal.returns-in_err-plan-clause-still
 returns-in_err-plan-clause-still g c = err_refusal _ _ (λ (r : Refusal). StandsStill _ _ r.status) c.from_residual.ensures.1 (no_step _ c.in_err-plan.field-0.0.status)

@@ -2,7 +2,7 @@
 use Rattle.std.proofs.Common.{[], map}
 use Rattle.std.specs.String.{string_bytes}
 use Rattle.kira_app.specs.declared.status.Status.TheVariants as status
-use Rattle.kira_app.proofs.Causes.{refusal_answered, complete}
+use Rattle.kira_app.proofs.Causes.{refusal_answered, complete, counted_by, divisor_told}
 use Rattle.kira_app.proofs.top.kira_alone.Goals as goal
 
 pub returns-in-Refused-clause-complete : goal.returns-in-Refused-clause-complete
@@ -28,3 +28,19 @@ returns-clause-complete g c =
     let law = c.jobs_agree.ensures in
     let cause = c.in-Err-ended.ensures.cause (map string_bytes c.args.words.now) c.in-Job.ensures in
     λ held told planned quiet calm. complete law.agree law.modulus _ held told planned.plan planned.is planned.holds quiet calm c.in-Err-ended.refusal.status c.in-Err-ended.refusal.name cause.1
+
+pub returns-in-Refused-clause-counted : goal.returns-in-Refused-clause-counted
+returns-in-Refused-clause-counted g c = counted_by _ c.refused-refusal.result.status c.refused-refusal.result.name c.refused-refusal.ensures.cause.1
+
+pub returns-in-Refused-clause-divisor : goal.returns-in-Refused-clause-divisor
+returns-in-Refused-clause-divisor g c = divisor_told c.jobs_agree.ensures.divisors _ c.refused-refusal.result.status c.refused-refusal.result.name c.refused-refusal.ensures.cause.1
+
+pub returns-clause-counted : goal.returns-clause-counted
+returns-clause-counted g c =
+    let cause = c.in-Err-ended.ensures.cause (map string_bytes c.args.words.now) c.in-Job.ensures in
+    counted_by _ c.in-Err-ended.refusal.status c.in-Err-ended.refusal.name cause.1
+
+pub returns-clause-divisor : goal.returns-clause-divisor
+returns-clause-divisor g c =
+    let cause = c.in-Err-ended.ensures.cause (map string_bytes c.args.words.now) c.in-Job.ensures in
+    divisor_told c.jobs_agree.ensures.divisors _ c.in-Err-ended.refusal.status c.in-Err-ended.refusal.name cause.1
