@@ -4,11 +4,11 @@
 #[cfg(test)]
 mod calls;
 #[cfg(test)]
+mod files;
+#[cfg(test)]
 mod jobs;
 #[cfg(test)]
 mod plain;
-#[cfg(test)]
-mod refusals;
 #[cfg(test)]
 mod symmetries;
 #[cfg(test)]
