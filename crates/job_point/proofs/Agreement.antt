@@ -3,7 +3,7 @@ use Rattle.std.proofs.Common.{◌≡◌, ◌<◌, inl, inr, ℕ, List, [], ◌�
 use Rattle.std.proofs.lemmas.Bool.{cases_lt}
 use Rattle.std.proofs.lemmas.List.{get_or_past}
 use Rattle.matrix_elimination.specs.Vectors.{HasLeadingOne}
-use Rattle.kinematics.specs.Laws.{HasOneOutcome}
+use Rattle.rational_expressions.specs.Laws.{HasOneOutcome}
 use Rattle.kinematics.specs.RuleLaws.{ClashHasNoTable}
 use Rattle.kinematics.specs.Points.{Point}
 use Rattle.rational_expressions.specs.Trees.{Tree}

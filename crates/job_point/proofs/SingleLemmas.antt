@@ -1,7 +1,7 @@
 -- A job says one thing at most at its numeric point.
 use Rattle.std.proofs.Common.{◌≡◌, ℕ, ◌<◌, List, [], ◌∷◌, length, Ok, sym, ap, subst, ◌∙◌}
 use Rattle.kinematics.specs.declared.rules.Rule.{Rule}
-use Rattle.kinematics.specs.Laws.{HasOneOutcome}
+use Rattle.rational_expressions.specs.Laws.{HasOneOutcome}
 use Rattle.kinematics.specs.Points.{Point}
 use Rattle.rational_expressions.specs.Trees.{Tree}
 use Rattle.rational_expressions.specs.Evaluation.{Outcome}
