@@ -2,6 +2,8 @@
 #![tactic(auto)]
 
 ghost use Rattle.std.specs.Prelude.{◌≡◌, ◌<◌};
+ghost use Rattle.std.specs.Process.{exit_status};
+ghost use Rattle.kira_app.specs.Message.{exit_code_of};
 
 use kira_app::{Refusal, Status, exit_code, kira_alone, tell};
 use kira_outside::{Files, HostFiles, HostSink, Sink};
@@ -42,6 +44,13 @@ fn call<F: Files, O: Sink, E: Sink, L: Ledger>(
     kira_alone(alloc, words, files, out, err, &mut steps)
 }
 
+// What the process ends with where the call ended with this status.
+fn ending(status: &Status) -> ExitCode
+    ensures { exit_status result ≡ exit_code_of status.now }
+{
+    ExitCode::from(exit_code(status))
+}
+
 fn main(rt: HostRuntime) -> ExitCode {
     let mut files = HostFiles::new(rt);
     let mut out = HostSink::new(rt.stdout());
@@ -61,5 +70,5 @@ fn main(rt: HostRuntime) -> ExitCode {
             refusal.status
         }
     };
-    ExitCode::from(exit_code(&status))
+    ending(&status)
 }
