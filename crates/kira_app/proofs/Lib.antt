@@ -1,5 +1,6 @@
 pub mod Told
 pub mod Loaded
+pub mod LoadOrder
 pub mod ListLoading
 pub mod TextOfTable
 pub mod Runs

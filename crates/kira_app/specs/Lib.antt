@@ -4,6 +4,7 @@ pub mod Told
 pub mod Sources
 pub mod KeptSources
 pub mod Plans
+pub mod Loads
 pub mod Message
 pub mod Run
 pub mod TopClauses

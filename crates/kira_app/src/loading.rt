@@ -1,11 +1,12 @@
 //! What the files of a job hold, loaded in their order.
 
-ghost use Rattle.std.specs.Prelude.{◌≡◌, ◌⊎◌, ◌≤◌, ◌<◌, ◌^◌, Ok, [], ◌∷◌, ◌++◌, All, length, map, IfOk, OnOk, IfErr};
+ghost use Rattle.std.specs.Prelude.{◌≡◌, ◌⊎◌, ◌≤◌, ◌<◌, ◌^◌, Ok, [], ◌∷◌, ◌++◌, All, codes, length, map, IfOk, OnOk, IfErr};
 ghost use Rattle.std.specs.Str.{IsAscii};
 ghost use Rattle.input_schema.specs.Readings as input;
 ghost use Rattle.job_point.specs.Steps.{Is};
 ghost use Rattle.kira_app.specs.Steps.{OfReading, plain, plainly, texts_of, bytes_of};
 ghost use Rattle.kira_app.specs.Sources.{tree_in, list_of, TreeOf, KinematicsOf, FamiliesOf, TreesOf, ListsOf, OutlineOf, Outlines, SourcesWith, ReadsSources};
+ghost use Rattle.kira_app.specs.Loads.{three_files, names_of, Loads, LoadsFor, HasLoaded};
 ghost use Rattle.kira_app.specs.Told.{Tells, Answers, IsMissed, IsPresent};
 
 use crate::job_files::{Sources, Trees};
@@ -49,6 +50,7 @@ fn parse(alloc: Global, file: File, bytes: &[u8]) -> Result<Tree, Status>
 fn load_tree<F: Files>(alloc: Global, files: &mut F, file: File, name: &str) -> Result<Tree, Status>
     ensures tree { Tells (F.held files.old) (F.faults files.old) (F.faults files.new) (TreeOf file name.now) (plainly result) }
     ensures missing { IfErr result (IsMissed (F.held files.old) (F.faults files.old) (F.faults files.new)) }
+    ensures loads { Loads (F.loaded files.old) (F.loaded files.new) (name.now ∷ []) }
     ensures same { F.held files.new ≡ F.held files.old }
 {
     match files.load(alloc, name, MOST_BYTES + 1) {
@@ -68,6 +70,7 @@ fn load_kinematics<F: Files>(
 ) -> Result<Trees, Status>
     ensures trees { Tells (F.held files.old) (F.faults files.old) (F.faults files.new) (KinematicsOf jobs families) (plainly result) }
     ensures missing { IfErr result (IsMissed (F.held files.old) (F.faults files.old) (F.faults files.new)) }
+    ensures loads { Loads (F.loaded files.old) (F.loaded files.new) (codes "config/kinematics.yaml" ∷ []) }
     ensures same { F.held files.new ≡ F.held files.old }
 {
     let kinematics = load_tree(alloc, files, File::Kinematics, "config/kinematics.yaml")?;
@@ -82,6 +85,7 @@ fn load_kinematics<F: Files>(
 fn load_families<F: Files>(alloc: Global, files: &mut F, jobs: Tree) -> Result<Trees, Status>
     ensures trees { Tells (F.held files.old) (F.faults files.old) (F.faults files.new) (FamiliesOf jobs) (plainly result) }
     ensures missing { IfErr result (IsMissed (F.held files.old) (F.faults files.old) (F.faults files.new)) }
+    ensures loads { LoadsFor (F.loaded files.old) (F.loaded files.new) (codes "config/integralfamilies.yaml" ∷ codes "config/kinematics.yaml" ∷ []) result }
     ensures same { F.held files.new ≡ F.held files.old }
 {
     let families = load_tree(alloc, files, File::Families, "config/integralfamilies.yaml")?;
@@ -92,6 +96,7 @@ fn load_families<F: Files>(alloc: Global, files: &mut F, jobs: Tree) -> Result<T
 fn load_trees<F: Files>(alloc: Global, files: &mut F, name: &str) -> Result<Trees, Status>
     ensures trees { Tells (F.held files.old) (F.faults files.old) (F.faults files.new) (TreesOf name.now) (plainly result) }
     ensures missing { IfErr result (IsMissed (F.held files.old) (F.faults files.old) (F.faults files.new)) }
+    ensures loads { LoadsFor (F.loaded files.old) (F.loaded files.new) (three_files name.now) result }
     ensures same { F.held files.new ≡ F.held files.old }
 {
     let jobs = load_tree(alloc, files, File::Jobs, name)?;
@@ -144,6 +149,7 @@ fn load_list<F: Files>(
     ensures list { Tells (F.held files.old) (F.faults files.old) (F.faults files.new) (λ held. Is (list_of number name.now held)) (bytes_of result) }
     ensures short { IfOk result (λ bytes. length bytes.items ≤ 2 ^ 24) }
     ensures missing { IfErr result (λ refusal. IsMissed (F.held files.old) (F.faults files.old) (F.faults files.new) refusal.status) }
+    ensures loads { Loads (F.loaded files.old) (F.loaded files.new) (name.now ∷ []) }
     ensures same { F.held files.new ≡ F.held files.old }
 {
     let list = File::List(number);
@@ -179,6 +185,7 @@ fn load_lists<F: Files>(
     ensures short { IfOk result (λ lists. All (λ text. length text.items ≤ 2 ^ 24) lists.items) }
     ensures count { IfOk result (λ lists. length lists.items ≡ length outline.now.select.files) }
     ensures missing { IfErr result (λ refusal. IsMissed (F.held files.old) (F.faults files.old) (F.faults files.new) refusal.status) }
+    ensures loads { LoadsFor (F.loaded files.old) (F.loaded files.new) (names_of outline.now.select.files) result }
     ensures same { F.held files.new ≡ F.held files.old }
 {
     let mut lists = Vec::new(alloc);
@@ -199,6 +206,7 @@ fn outlined<F: Files>(
     ensures outlines { Tells (F.held files.old) (F.faults files.old) (F.faults files.new) (Outlines overrides.now jobfile.now) (plainly result) }
     ensures outline { IfOk result (λ both. OutlineOf overrides.now both.0 (Ok both.1)) }
     ensures missing { IfErr result (IsMissed (F.held files.old) (F.faults files.old) (F.faults files.new)) }
+    ensures loads { LoadsFor (F.loaded files.old) (F.loaded files.new) (three_files jobfile.now) result }
     ensures same { F.held files.new ≡ F.held files.old }
 {
     jobs_never_say_missing();
@@ -218,6 +226,7 @@ fn with_lists<F: Files>(
     requires { OutlineOf overrides.now trees (Ok outline.now) }
     ensures sources { Tells (F.held files.old) (F.faults files.old) (F.faults files.new) (SourcesWith trees outline.now) result }
     ensures missing { IfErr result (λ refusal. IsMissed (F.held files.old) (F.faults files.old) (F.faults files.new) refusal.status) }
+    ensures loads { LoadsFor (F.loaded files.old) (F.loaded files.new) (names_of outline.now.select.files) result }
     ensures same { F.held files.new ≡ F.held files.old }
 {
     outlines_have_a_modulus();
@@ -239,6 +248,7 @@ pub fn sources<F: Files>(
 ) -> Result<Sources, Refusal>
     ensures sources { Tells (F.held files.old) (F.faults files.old) (F.faults files.new) (ReadsSources overrides.now jobfile.now) result }
     ensures missing { IfErr result (λ refusal. IsMissed (F.held files.old) (F.faults files.old) (F.faults files.new) refusal.status) }
+    ensures loads { HasLoaded overrides.now jobfile.now (F.held files.old) (F.loaded files.old) (F.loaded files.new) result }
     ensures same { F.held files.new ≡ F.held files.old }
 {
     match outlined(alloc, files, jobfile, overrides) {

@@ -16,6 +16,7 @@ ghost use Rattle.kira_app.specs.Message.{message_text, usage_line, IsToldOf};
 ghost use Rattle.kira_app.specs.Told.{IfTold, Tells, IsMissed, IsCounted};
 ghost use Rattle.kira_app.specs.Words.{AsksCall, AsksHelp, AsksUsage, AsksJob, AsksUnserved, AreAnswered, IsServedJob};
 ghost use Rattle.kira_app.specs.Plans.{PlanOf};
+ghost use Rattle.kira_app.specs.Loads.{AllLoaded, SomeLoaded};
 ghost use Rattle.kira_app.specs.TopClauses.{IsTextOf, IsSent, IsPartlySent, TakesUnits, StandsStill, HavePlan, AreRefused, IsDivisorIn, IsStopped, IsPrime, HasCause, HasEnded, HasShown, IsExplained, IsAnsweredBy};
 
 use crate::laws::jobs_agree;
@@ -35,6 +36,8 @@ use table_text::send;
 fn plan_of<F: Files>(alloc: Global, job: &ServedJob, files: &mut F) -> Result<Plan, Refusal>
     ensures plan { (words : List Bytes) → IsServedJob words job.now → Tells (F.held files.old) (F.faults files.old) (F.faults files.new) (PlanOf words) result }
     ensures missing { IfErr result (λ refusal. IsMissed (F.held files.old) (F.faults files.old) (F.faults files.new) refusal.status) }
+    ensures loads { (words : List Bytes) → IsServedJob words job.now → OnOk result (AllLoaded words (F.held files.old) (F.loaded files.old) (F.loaded files.new)) }
+    ensures loads_some { (words : List Bytes) → IsServedJob words job.now → SomeLoaded words (F.held files.old) (F.loaded files.old) (F.loaded files.new) }
     ensures same { F.held files.new ≡ F.held files.old }
 {
     jobs_never_say_missing();
@@ -63,6 +66,8 @@ fn ended<F: Files, O: Sink, L: Ledger>(
       steps_after = steps.new;
     }) result }
     ensures missing { IfErr result (λ refusal. IsMissed (F.held files.old) (F.faults files.old) (F.faults files.new) refusal.status) }
+    ensures loads { (words : List Bytes) → IsServedJob words job.now → OnOk result (AllLoaded words (F.held files.old) (F.loaded files.old) (F.loaded files.new)) }
+    ensures loads_some { (words : List Bytes) → IsServedJob words job.now → SomeLoaded words (F.held files.old) (F.loaded files.old) (F.loaded files.new) }
     ensures still { IfErr result (λ refusal. StandsStill steps.old steps.new refusal.status) }
     ensures silent { IfErr result (λ refusal. refusal.status ≢ Status.WriteFault → out.new ≡ out.old) }
     ensures same { F.held files.new ≡ F.held files.old }
@@ -157,6 +162,10 @@ pub fn kira_alone<F: Files, O: Sink, E: Sink, L: Ledger>(
     ensures not_served { AsksUnserved (map string_bytes words.now) → (result ≡ Status.NotYet) ⊎ (result ≡ Status.OutOfMemory) }
     ensures first_refusal { (held : Held) (refusal : StatusValue) → F.held files.old ≡ Some held → AreRefused (map string_bytes words.now) refusal held
         → ¬ (Rose (F.faults files.old) (F.faults files.new)) → IsAnsweredBy (map string_bytes words.now) held refusal result }
+
+    // The files of the job are loaded in order, each once: all of them at `Ok`, and the first of them at any other answer.
+    ensures loads { AsksJob (map string_bytes words.now) → result ≡ Status.Ok → AllLoaded (map string_bytes words.now) (F.held files.old) (F.loaded files.old) (F.loaded files.new) }
+    ensures loads_some { AsksJob (map string_bytes words.now) → SomeLoaded (map string_bytes words.now) (F.held files.old) (F.loaded files.old) (F.loaded files.new) }
 
     // Nothing is written before the whole text is made.
     ensures silent { result ≢ Status.Ok → result ≢ Status.WriteFault → out.new ≡ out.old }

@@ -1,5 +1,5 @@
 -- What the forms in memory are seen as. The project's own.
-use Rattle.std.specs.Prelude.{◌≡◌, ℕ, ◌+◌, ◌<◌, ◌⊎◌, List, map, length, min, Contains, refl}
+use Rattle.std.specs.Prelude.{◌≡◌, ℕ, ◌+◌, ◌-◌, ◌^◌, ◌<◌, ◌⊎◌, List, map, length, min, Contains, refl}
 use Rattle.std.specs.Coded.{Coded, code_by, coded×, coded_ℕ, coded_list}
 use Rattle.std.specs.FinMap as finite
 use Rattle.kira_outside.specs.Faults.{one_more}
@@ -13,6 +13,10 @@ pub record FilesInMemory : Type 0 where
   pub failing : List ℕ
   pub calls : ℕ
   pub faults : ℕ
+
+-- these may be the names of all loads: the calls that were made are as many, up to the last value of their count
+abbrev pub CountsLoads : FilesInMemory → List (List ℕ) → Type 0
+CountsLoads files names = files.calls ≡ min (length names) (2 ^ 64 - 1)
 
 abbrev pub files_in_memory_code : Coded FilesInMemory
 files_in_memory_code =

@@ -39,9 +39,11 @@ impl<R: rt::Files + Drop> HostFiles<R> {
 }
 
 impl<R: rt::Files + Drop> Files for HostFiles<R> {
-    ghost use Rattle.std.specs.Prelude.{None};
+    ghost use Rattle.std.specs.Prelude.{⊤, None};
 
     ghost held = { λ _. None };
+
+    ghost loaded = { λ _ _. ⊤ };
 
     ghost faults = { λ files. files.faults };
 

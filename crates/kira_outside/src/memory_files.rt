@@ -1,6 +1,6 @@
-//! Files in memory, which tell all that they hold.
+//! Files in memory, which tell all that they hold, and how many loads were made.
 
-ghost use Rattle.std.specs.Prelude.{◌≡◌, ◌≤◌, ◌↔◌, ◌≢◌, Some, length, take, option_map, IfOk, OnOk, OnErr, IsErrOf, IsSome};
+ghost use Rattle.std.specs.Prelude.{◌≡◌, ◌≤◌, ◌↔◌, ◌≢◌, ℕ, List, [], ◌∷◌, ◌++◌, Some, length, take, option_map, IfOk, OnOk, OnErr, IsErrOf, IsSome};
 ghost use Rattle.std.specs.FinMap.{get};
 ghost use Rattle.kira_outside.specs.Faults.{Rose, one_more};
 ghost use Rattle.kira_outside.specs.Held.{HoldsName, LoadGives, LacksName};
@@ -53,9 +53,11 @@ impl MemoryFiles {
 }
 
 impl Files for MemoryFiles {
-    ghost use Rattle.kira_outside.specs.MemoryState.{IsFailing};
+    ghost use Rattle.kira_outside.specs.MemoryState.{IsFailing, CountsLoads};
 
     ghost held = { λ files. Some files.held };
+
+    ghost loaded = { CountsLoads };
 
     ghost faults = { λ files. files.faults };
 
@@ -64,6 +66,7 @@ impl Files for MemoryFiles {
         ensures at_most { IfOk result (λ bytes. length bytes.items ≤ most) }
         ensures missing { IsErrOf result LoadFault.Missing → LacksName self.old.faults self.new.faults (Some self.old.held) name.now }
         ensures memory { IsErrOf result LoadFault.OutOfMemory → HoldsName (Some self.old.held) name.now }
+        ensures loaded { (names : List (List ℕ)) → CountsLoads self.old names → CountsLoads self.new (names ++ name.now ∷ []) }
         ensures same { Some self.new.held ≡ Some self.old.held }
         ensures failed { IsErrOf result LoadFault.Failed → Rose self.old.faults self.new.faults }
         ensures ok_count { OnOk result (self.new.faults ≡ self.old.faults) }

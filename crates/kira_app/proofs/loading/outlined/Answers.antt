@@ -4,10 +4,12 @@ use Rattle.job_outline.specs.Outlines.{Outline}
 use Rattle.kira_app.specs.declared.job_files.Trees.{Trees}
 use Rattle.job_point.specs.Steps.{Is, Then}
 use Rattle.kira_app.specs.Steps.{Step, plain}
+use Rattle.kira_app.specs.Loads.{three_files}
 use Rattle.kira_app.specs.Told.{IsMissed}
 use Rattle.kira_app.specs.Sources.{TreesOf, OutlineOf, Outlines}
 use Rattle.kira_app.proofs.Told.{weaker, then_is, err_plain, of_error, refused_then, told_later, missing_said}
 use Rattle.kira_app.proofs.Present.{outline_present}
+use Rattle.kira_app.proofs.LoadOrder.{loads_all, err_loads}
 use Rattle.kira_app.proofs.loading.outlined.Goals as goal
 
 -- what follows an outline, and what follows the trees
@@ -43,3 +45,9 @@ returns-clause-outlines g c =
           c.in_ok-trees.ensures.trees.0,
       c.in_ok-trees.ensures.trees.1,
     )
+
+pub returns-in_err-trees-clause-loads : goal.returns-in_err-trees-clause-loads
+returns-in_err-trees-clause-loads g c = err_loads (g.F.Files.loaded c.args.files.now) (g.F.Files.loaded c.load_trees.new.files) (three_files c.args.jobfile.now) _ _ c.from_residual.ensures.1 c.in_err-trees.ensures.loads
+
+pub returns-in_err-outline-clause-loads : goal.returns-in_err-outline-clause-loads
+returns-in_err-outline-clause-loads g c = err_loads (g.F.Files.loaded c.args.files.now) (g.F.Files.loaded c.load_trees.new.files) (three_files c.args.jobfile.now) _ _ c.from_residual-in_err-outline.ensures.1 (loads_all (g.F.Files.loaded c.args.files.now) (g.F.Files.loaded c.load_trees.new.files) (three_files c.args.jobfile.now) c.in_ok-trees.ensures.loads)

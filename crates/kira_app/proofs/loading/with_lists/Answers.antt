@@ -4,8 +4,10 @@ use Rattle.std.proofs.lemmas.List.Elements.{All-map}
 use Rattle.yaml_text.specs.Lines.{Bytes}
 use Rattle.job_schema.specs.declared.selections.Selection.{Selection}
 use Rattle.job_point.specs.Steps.{Is}
+use Rattle.kira_app.specs.Loads.{names_of}
 use Rattle.kira_app.specs.Sources.{ListsOf, SourcesWith}
 use Rattle.kira_app.proofs.Told.{stops, err_told}
+use Rattle.kira_app.proofs.LoadOrder.{err_loads}
 use Rattle.kira_app.proofs.loading.with_lists.Goals as goal
 
 pub returns-in_err-lists-clause-sources : goal.returns-in_err-lists-clause-sources
@@ -23,3 +25,6 @@ invariant_of-result g c =
           ∙ ap (λ (select : Selection). length select.files)
           (c.outlines_have_a_modulus.ensures.selection trees.families trees.kinematics trees.jobs c.args.overrides.now overrides c.args.outline.now outline c.requires h);
     }
+
+pub returns-in_err-lists-clause-loads : goal.returns-in_err-lists-clause-loads
+returns-in_err-lists-clause-loads g c = err_loads (g.F.Files.loaded c.args.files.now) (g.F.Files.loaded c.load_lists.new.files) (names_of c.args.outline.now.select.files) _ _ c.from_residual.ensures.1 c.in_err-lists.ensures.loads

@@ -3,6 +3,8 @@ use Rattle.std.proofs.Common.{[], map}
 use Rattle.std.specs.String.{string_bytes}
 use Rattle.kira_app.specs.declared.status.Status.TheVariants as status
 use Rattle.kira_app.proofs.Causes.{refusal_answered, complete, counted_by, divisor_told}
+use Rattle.kira_app.specs.Words.{job_file, overrides_of}
+use Rattle.kira_app.proofs.LoadOrder.{nothing_loaded}
 use Rattle.kira_app.proofs.top.kira_alone.Goals as goal
 
 pub returns-in-Refused-clause-complete : goal.returns-in-Refused-clause-complete
@@ -44,3 +46,15 @@ pub returns-clause-divisor : goal.returns-clause-divisor
 returns-clause-divisor g c =
     let cause = c.in-Err-ended.ensures.cause (map string_bytes c.args.words.now) c.in-Job.ensures in
     divisor_told c.jobs_agree.ensures.divisors _ c.in-Err-ended.refusal.status c.in-Err-ended.refusal.name cause.1
+
+pub returns-in-Ok-ended-clause-loads : goal.returns-in-Ok-ended-clause-loads
+returns-in-Ok-ended-clause-loads g c = λ _ _. c.in-Ok-ended.ensures.loads (map string_bytes c.args.words.now) c.in-Job.ensures
+
+pub returns-in-Ok-ended-clause-loads_some : goal.returns-in-Ok-ended-clause-loads_some
+returns-in-Ok-ended-clause-loads_some g c = λ _. c.in-Ok-ended.ensures.loads_some (map string_bytes c.args.words.now) c.in-Job.ensures
+
+pub returns-clause-loads_some : goal.returns-clause-loads_some
+returns-clause-loads_some g c = λ _. c.in-Err-ended.ensures.loads_some (map string_bytes c.args.words.now) c.in-Job.ensures
+
+pub returns-in-Refused-clause-loads_some : goal.returns-in-Refused-clause-loads_some
+returns-in-Refused-clause-loads_some g c = λ _. nothing_loaded (overrides_of (map string_bytes c.args.words.now)) (job_file (map string_bytes c.args.words.now)) (g.F.Files.held c.args.files.now) (g.F.Files.loaded c.args.files.now)
