@@ -1,12 +1,11 @@
 -- Files that are loaded one behind the other.
-use Rattle.std.proofs.Common.{◌≡◌, ◌⊎◌, inl, inr, ℕ, ◌+◌, ◌<◌, ◌≤◌, min, List, [], ◌∷◌, ◌++◌, length, length-append, take, drop, get_or, append_assoc, Option, Result, Ok, Err, OnOk, refl, sym, ap, subst, ◌∙◌, arith}
+use Rattle.std.proofs.Common.{◌≡◌, inl, inr, ℕ, ◌+◌, ◌<◌, List, [], ◌∷◌, ◌++◌, length, length-append, take, drop, get_or, append_assoc, Option, Result, Ok, Err, OnOk, refl, sym, ap, subst, ◌∙◌, arith}
 use Rattle.std.specs.Result.{IsErrAnd}
 use Rattle.std.proofs.Math.Seq.{take-add, take-append-add, take-length}
 use Rattle.std.proofs.lemmas.List.{append-nil, at_drop_more, take-append-le}
 use Rattle.yaml_text.specs.Lines.{Bytes}
 use Rattle.kira_outside.specs.Held.{Held}
 use Rattle.job_schema.specs.Overridden.{Override}
-use Rattle.job_schema.specs.declared.selections.ListFile.{ListFile}
 use Rattle.job_plan.specs.Outlines.{Outline}
 use Rattle.kira_app.specs.declared.job_files.Trees.{Trees}
 use Rattle.kira_app.specs.declared.refusal.Refusal.{Refusal}

@@ -23,7 +23,7 @@ names_of lists = map (λ list. list.name) lists
 abbrev pub files_of : Bytes → List ListFile → List Bytes
 files_of job lists = three_files job ++ names_of lists
 
--- Behind the loads made before, just these files were loaded. What can be said of the loads, the object says at both moments.
+-- Behind the loads made before, just these files were loaded. What the loads can be, the object says at both moments.
 abbrev pub Loads : (List Bytes → Type 0) → (List Bytes → Type 0) → List Bytes → Type 0
 Loads before after files = (names : List Bytes) → before names → after (names ++ files)
 
