@@ -6,7 +6,7 @@ use Rattle.std.proofs.lemmas.List.{append-nil, at_drop_more, take-append-le}
 use Rattle.yaml_text.specs.Lines.{Bytes}
 use Rattle.kira_outside.specs.Held.{Held}
 use Rattle.job_schema.specs.Overridden.{Override}
-use Rattle.job_plan.specs.Outlines.{Outline}
+use Rattle.job_outline.specs.Outlines.{Outline}
 use Rattle.kira_app.specs.declared.job_files.Trees.{Trees}
 use Rattle.kira_app.specs.declared.refusal.Refusal.{Refusal}
 use Rattle.kira_app.specs.Told.{IfTold}

@@ -4,7 +4,7 @@ use Rattle.yaml_text.specs.Lines.{Bytes}
 use Rattle.kira_outside.specs.Held.{Held}
 use Rattle.job_schema.specs.declared.selections.ListFile.{ListFile}
 use Rattle.job_schema.specs.Overridden.{Override}
-use Rattle.job_plan.specs.Outlines.{Outline}
+use Rattle.job_outline.specs.Outlines.{Outline}
 use Rattle.kira_app.specs.declared.job_files.Trees.{Trees}
 use Rattle.kira_app.specs.declared.refusal.Refusal.{Refusal}
 use Rattle.kira_app.specs.Told.{IfTold}
