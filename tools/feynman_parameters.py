@@ -49,7 +49,7 @@ def linear(coefficients, prime):
 def quadratic_form(family, places):
     """A, Q and J, where the sum of x_i D_i over these places is k A k + 2 k Q + J.
 
-    The entries of A and J are linear polynomials; Q has for each loop momentum a list of them, over the external momenta.
+    The entries of A and J are linear polynomials; Q has for each loop momentum a list of them, over the external ones.
     """
     prime = family.job.prime
     half = pow(2, -1, prime)

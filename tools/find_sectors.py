@@ -3,21 +3,21 @@
 
     tools/find_sectors.py FOLDER [NAME=VALUE]...
 
-By R. N. Lee's criterion (arXiv:1310.1145): with G = U + F of the sector's denominators the sector is zero where numbers k_i
-solve sum_i k_i x_i dG/dx_i = G. This says that k_1 a_1 + .. + k_n a_n = 1 for the exponents a of each monomial of G. Where U
-is 0 all monomials have the degree of F, and such numbers are there.
+By R. N. Lee's criterion (arXiv:1310.1145): with G = U + F of the sector's denominators the sector is zero where numbers
+k_i solve sum_i k_i x_i dG/dx_i = G. This says that k_1 a_1 + .. + k_n a_n = 1 for the exponents a of each monomial of
+G. Where U is 0 all monomials have the degree of F, and such numbers are there.
 
-For each family it prints a line to paste, with the greatest zero sectors below its top level sectors, and complains about
-each listed sector that isn't zero by this criterion. It ends with 1 where there is one. The program believes what is listed
-and never sees this tool.
+For each family it prints a line to paste, with the greatest zero sectors below its top level sectors, and complains
+about each listed sector that isn't zero by this criterion. It ends with 1 where there is one. The program believes what
+is listed and never sees this tool.
 """
 import sys
 
 import job_files
 from feynman_parameters import u_and_f
 
-# The equations for k have at most 21 columns, and their rows at most the length sqrt(6^2 + 1). So their minors are below
-# 37^10.5 < 2^55, and a prime above decides as the rational numbers do. The job's own prime may be small.
+# The equations for k have at most 21 columns, and their rows at most the length sqrt(6^2 + 1). So their minors are at
+# most 37^10.5 < 2^55, and a prime above decides as the rational numbers do. The job's own prime may be small.
 LARGE_PRIME = 2**61 - 1
 
 
@@ -60,7 +60,7 @@ def greatest_below(family, top):
 def zero_sectors(family):
     """The greatest zero sectors within the top level sectors, ascending, without the empty one."""
     found = {sector for top in family.top_sectors for sector in greatest_below(family, top)} - {0}
-    return sorted(sector for sector in found if not any(sector != other and sector & other == sector for other in found))
+    return sorted(one for one in found if not any(one != other and one & other == one for other in found))
 
 
 def work(job):

@@ -5,13 +5,13 @@
 
 The permutations of a sector's denominators are found that leave U and F as they are (A. Pak, arXiv:1111.0868), by
 backtracking. Then for each a shift of the loop momenta is sought: the momenta of denominators that fix all loop momenta
-become, each up to its sign, those of their images. It is proposed where it permutes all denominators of the family, as a
-symmetry of a job has to.
+become, each up to its sign, those of their images. It is proposed where it permutes all denominators of the family, as
+a symmetry of a job has to.
 
-It prints items to paste, of which products of earlier ones are left out, and as a comment each permutation of a top level
-sector for which no shift was found. Shifts that permute all denominators but move a top level sector out of these are
-comments too: they lead to integrals that aren't seeded. The program tests each listed symmetry itself and never sees this
-tool.
+It prints items to paste, of which products of earlier ones are left out, and as a comment each permutation of a top
+level sector for which no shift was found. Shifts that permute all denominators but move a top level sector out of these
+are comments too: they lead to integrals that aren't seeded. The program tests each listed symmetry itself and never
+sees this tool.
 """
 import itertools
 import operator
@@ -58,7 +58,8 @@ def permuted(exponents, images):
 def form(family, left, right, value):
     """The coefficients of a denominator over the products with a loop momentum, and its constant."""
     loops, places = len(family.loops), range(len(family.momenta))
-    products = [left[i] * right[j] + (left[j] * right[i] if i != j else 0) for i in range(loops) for j in places if j >= i]
+    pairs = [(i, j) for i in range(loops) for j in places if j >= i]
+    products = [left[i] * right[j] + (left[j] * right[i] if i != j else 0) for i, j in pairs]
     return products, (family.external_product(left, right) - value) % family.job.prime
 
 
@@ -122,7 +123,7 @@ def shifts(family, basis, image):
 
 
 def symmetries_of(family, top):
-    """For each permutation of a sector that leaves U and F: its images, and the shifts with the permutations that they make."""
+    """For each permutation of a sector that leaves U and F: its images, and the shifts with what they permute."""
     places = [place for place in range(family.width) if top >> place & 1]
     basis = fixing(family, places)
     u, f = u_and_f(family, top)

@@ -1,7 +1,7 @@
-"""Reads a job's files for the tools: families whose momenta are vectors of coefficients, with all values at the job's point.
+"""Reads a job's files for the tools: families whose momenta are vectors of coefficients, all values at the job's point.
 
-It needs PyYAML, finds few faults of the input, and nothing that it says is trusted by the program. The rules that it follows
-are those of docs/FORMATS.md.
+It needs PyYAML, finds few faults of the input, and nothing that it says is trusted by the program. The rules that it
+follows are those of docs/FORMATS.md.
 """
 import ast
 import itertools

@@ -27,23 +27,34 @@ KINEMATICS = """kinematics:
   incoming_momenta: [p1]
   outgoing_momenta: [p2]
   momentum_conservation: [p2, p1]
-  kinematic_invariants: [[s, 2], [m2, 2], [w, 1]]
+  kinematic_invariants: [[s, 2], [m2, 2], [w, 1], [unit, 2]]
+  symbol_to_replace_by_one: unit
   scalarproduct_rules:
     - [[p1,p2], s]
 """
-POINT = "jobs: [{reduce_sectors: {numeric_point: {prime: 10007, d: 7/3, s: 4, m2: 3/2, w: 5}}}]\n"
+JOBS = """jobs:
+  - reduce_sectors:
+      reduce: [{topologies: [fam], sectors: [3], r: 5, s: 1}]
+      select_integrals: {select_mandatory_recursively: [{topologies: [fam], sectors: [3], r: 3, s: 0}]}
+      numeric_point: {prime: 10007, d: 7/3, s: 4, m2: 3/2, w: 5}
+"""
+LINEAR = '[["k1", {}], {{bilinear: [["k1", "p1"], {}]}}]'
 
 
-def family_at(loops, propagators, *words):
-    """The one family with these propagators, at s = 4, m2 = 3/2 and w = 5 modulo 10007."""
+def job_with(reader, loops, propagators, *words):
+    """The job of one family with these propagators, by one of the two readers: s = 4, m2 = 3/2, w = 5 modulo 10007."""
     family = f"integralfamilies:\n  - name: fam\n    loop_momenta: {loops}\n    propagators: {propagators}\n"
     with tempfile.TemporaryDirectory() as place:
         folder = pathlib.Path(place)
         (folder / "config").mkdir()
-        (folder / "jobs.yaml").write_text(POINT)
+        (folder / "jobs.yaml").write_text(JOBS)
         (folder / "config/kinematics.yaml").write_text(KINEMATICS)
         (folder / "config/integralfamilies.yaml").write_text(family)
-        return job_files.Job(folder, words).families[0]
+        return reader(folder, words)
+
+
+def family_at(loops, propagators, *words):
+    return job_with(job_files.Job, loops, propagators, *words).families[0]
 
 
 def example_families():
@@ -98,10 +109,23 @@ class Sectors(unittest.TestCase):
 
     def test_linear_propagator(self):
         """G is x1 + x2² s/4 + w x1 x2 + m x1²: with w or m it has three monomials that no k serves."""
-        propagators = '[["k1", {}], {{bilinear: [["k1", "p1"], {}]}}]'
         for mass, value, expected in (("0", "w", [1, 2]), ("m2", "0", [2]), ("m2", "w", [2]), ("0", "0", [3])):
             with self.subTest(mass=mass, value=value):
-                self.assertEqual(find_sectors.zero_sectors(family_at("[k1]", propagators.format(mass, value))), expected)
+                family = family_at("[k1]", LINEAR.format(mass, value))
+                self.assertEqual(find_sectors.zero_sectors(family), expected)
+
+    def test_linear_propagator_by_equations(self):
+        """The equations alone, of which no sector is left out, show the integrals of these sectors to be 0."""
+        for mass, value in (("0", "w"), ("m2", "0"), ("m2", "w"), ("0", "0")):
+            propagators = LINEAR.format(mass, value)
+            listed = find_sectors.zero_sectors(family_at("[k1]", propagators))
+            rows = reference.table(job_with(reference.Job, "[k1]", propagators)).splitlines()
+            rows = [row.split(" = ") for row in rows if " = " in row]
+            self.assertEqual(len(rows), 9)
+            for integral, form in rows:
+                indices = [int(index) for index in integral[4:-1].split(",")]
+                with self.subTest(integral, mass=mass, value=value):
+                    self.assertEqual(form == "0", below_one(reference.sector_of(indices), listed))
 
     def test_large_prime(self):
         """It is a prime, by Lucas and Lehmer's test of 2^61 - 1."""
@@ -119,6 +143,10 @@ class Polynomials(unittest.TestCase):
         self.assertEqual(f, {(0, 2): 1, (1, 1): 5, (2, 0): 3})
         self.assertEqual(feynman_parameters.u_and_f(family, 2)[0], {})
 
+    def test_replaced_by_one(self):
+        u, f = feynman_parameters.u_and_f(family_at("[k1]", '[["k1", unit], ["k1+p1", 0]]'), 1)
+        self.assertEqual((u, f), ({(1,): 1}, {(2,): 1}))
+
     def test_sunrise(self):
         """U = x1 x2 + x1 x3 + x2 x3 and F = m2 (x1 + x2 + x3) U - s x1 x2 x3."""
         propagators = '[["k1", m2], ["k1-k2", m2], ["k2-p2", m2], ["k2", 0], ["k1-p1", 0]]'
@@ -134,8 +162,15 @@ class Polynomials(unittest.TestCase):
 
 
 class Symmetries(unittest.TestCase):
+    def test_automorphisms(self):
+        """A ring of four has 8 symmetries, and 4 where two opposite edges weigh more."""
+        ring = {(1, 1, 0, 0): 1, (0, 1, 1, 0): 1, (0, 0, 1, 1): 1, (1, 0, 0, 1): 1}
+        self.assertEqual(len(list(find_symmetries.automorphisms(ring, 4))), 8)
+        heavier = {**ring, (1, 1, 0, 0): 2, (0, 0, 1, 1): 2}
+        self.assertEqual(len(list(find_symmetries.automorphisms(heavier, 4))), 4)
+
     def test_listed_are_found(self):
-        """What is proposed makes the same permutations as what the two examples list: 2 of the sunrise, 24 of the vacuum."""
+        """The proposals make the permutations that the examples list: 2 of the sunrise, 24 of the vacuum."""
         for name, count in (("sunrise_with_symmetry", 2), ("vacuum_three_loops", 24)):
             family = job_files.Job(EXAMPLES / name, []).families[0]
             keeping, moving = find_symmetries.proposals(family)
@@ -144,6 +179,12 @@ class Symmetries(unittest.TestCase):
             found, listed = (find_symmetries.group(made, family.width) for made in (by_tool, by_list))
             with self.subTest(name):
                 self.assertEqual((found, len(found), moving), (listed, count, []))
+
+    def test_vacuum_has_all_shifts(self):
+        """The 24 exchanges of its four corners are all symmetries, so that none is left without a shift."""
+        family = job_files.Job(EXAMPLES / "vacuum_three_loops", []).families[0]
+        self.assertEqual(len(list(find_symmetries.symmetries_of(family, 63))), 24)
+        self.assertEqual(list(find_symmetries.without_shift(family)), [])
 
     def test_sunrise_by_hand(self):
         """k1 → p1 - k2, k2 → p1 - k1 is the one shift; the four other permutations of three equal masses have none."""
@@ -160,9 +201,11 @@ class Symmetries(unittest.TestCase):
         self.assertEqual((keeping, moving), ([], [[[0, 1, 0, 0], [1, 0, 0, 0]]]))
 
     def test_bubble(self):
-        """k1 → -k1 - p1 exchanges two equal masses; with a linear propagator beside a square there is nothing to exchange."""
+        """k1 → -k1 - p1 exchanges two equal masses; beside a linear propagator there is nothing to exchange."""
         family = family_at("[k1]", '[["k1", m2], ["k1+p1", m2]]')
         self.assertEqual(find_symmetries.proposals(family), ([[[-1, -1]]], []))
+        family = family_at("[k1]", '[["k1+p1", m2], ["k1-p1", m2]]')
+        self.assertEqual(find_symmetries.proposals(family), ([[[-1, 0]]], []))
         self.assertEqual(find_symmetries.proposals(family_at("[k1]", '[["k1", m2], ["k1+p1", 0]]')), ([], []))
         family = family_at("[k1]", '[["k1", m2], {bilinear: [["k1", "p1"], w]}]')
         self.assertEqual(find_symmetries.proposals(family), ([], []))
