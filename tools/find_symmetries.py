@@ -10,8 +10,8 @@ a symmetry of a job has to.
 
 It prints items to paste, of which products of earlier ones are left out, and as a comment each permutation of a top
 level sector for which no shift was found. Shifts that permute all denominators but move a top level sector out of these
-are comments too: they lead to integrals that aren't seeded. The program tests each listed symmetry itself and never
-sees this tool.
+are comments too: the program takes them, but they lead to integrals that may not be seeded. It tests each listed
+symmetry itself and never sees this tool.
 """
 import itertools
 import operator

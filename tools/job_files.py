@@ -32,7 +32,7 @@ class Job:
         families = loaded(folder / "config/integralfamilies.yaml")["integralfamilies"]
         point = dict(loaded(folder / "jobs.yaml")["jobs"][0]["reduce_sectors"]["numeric_point"] or {})
         point.update(pair_of(word) for word in words)
-        self.prime = int(asked(point, "prime"))
+        self.prime = prime_of(asked(point, "prime"))
         self.values = self.values_at(point, kinematics)
         self.conserved, self.external = None, names_of(kinematics)
         if "momentum_conservation" in kinematics:
@@ -141,6 +141,12 @@ def asked(point, name):
     return point[name]
 
 
+def prime_of(text):
+    if not re.fullmatch("[0-9]*[13579]", text) or int(text) < 3:
+        raise Fault(f"the prime {text} is no odd number from 3 on")
+    return int(text)
+
+
 def names_of(kinematics):
     return [*(kinematics.get("incoming_momenta") or []), *(kinematics.get("outgoing_momenta") or [])]
 
@@ -150,10 +156,15 @@ def residue(text, names, prime):
     plain = re.sub(r"\b0+(?=\d)", "", text.replace("^", "**").strip())
     try:
         return computed(ast.parse(plain, mode="eval").body, names, prime)
-    except (SyntaxError, TypeError, KeyError, AttributeError):
+    except (SyntaxError, TypeError, ValueError, KeyError, AttributeError):
         raise Fault(f"{text} is no expression over the invariants") from None
+
+
+def inverse(value, prime):
+    try:
+        return pow(value, -1, prime)
     except ValueError:
-        raise Fault(f"{text} divides by what has no inverse modulo {prime}") from None
+        raise Fault(f"{value} has no inverse modulo {prime}") from None
 
 
 def computed(tree, names, prime):
@@ -169,7 +180,7 @@ def computed(tree, names, prime):
         return pow(left, tree.right.value, prime)
     right = computed(tree.right, names, prime)
     if isinstance(tree.op, ast.Div):
-        return left * pow(right, -1, prime) % prime
+        return left * inverse(right, prime) % prime
     return OPERATIONS[type(tree.op)](left, right) % prime
 
 
@@ -189,7 +200,7 @@ def eliminated(rows, prime):
         if column == len(row) - 1:
             return None
         if column is not None:
-            factor = pow(row[column], -1, prime)
+            factor = inverse(row[column], prime)
             pivots[column] = [entry * factor % prime for entry in row]
     return pivots
 

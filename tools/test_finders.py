@@ -230,6 +230,21 @@ class Words(unittest.TestCase):
                 wanted = (2, "", "PyYAML is missing: Debian's package python3-yaml has it\n")
                 self.assertEqual((ended.returncode, ended.stdout, ended.stderr), wanted)
 
+    def test_faults(self):
+        """What is wrong with a word or a value is told in one line."""
+        cases = {
+            "prime=2": "the prime 2 is no odd number from 3 on",
+            "prime=x": "the prime x is no odd number from 3 on",
+            "m2=1/0": "0 has no inverse modulo 10007",
+            "m2=": " is no expression over the invariants",
+            "u=1": "u is no invariant",
+            "u": "u isn't NAME=VALUE",
+        }
+        for word, message in cases.items():
+            with self.subTest(word), self.assertRaises(job_files.Fault) as met:
+                family_at("[k1]", '[["k1", m2], ["k1+p1", 0]]', word)
+            self.assertEqual(str(met.exception), message)
+
     def test_missing_job(self):
         with tempfile.TemporaryDirectory() as place:
             ended = run_on("find_sectors.py", place)
