@@ -75,11 +75,12 @@ fn reads_the_least_file(rt: HostRuntime) -> Result<(), Fail> {
 
 #[test]
 fn leaves_the_conserved_momentum_out(rt: HostRuntime) -> Result<(), Fail> {
-    let kinematics = kinematics_of(
+    let tree = tree_of(
         rt.alloc(),
         "kinematics: {incoming_momenta: [p, q, r], momentum_conservation: [q, p]}",
     )
-    .ok_or("no tree")??;
+    .ok_or("no tree")?;
+    let kinematics = read(rt.alloc(), &tree)?;
     assert_eq!(rt; kinematics.independent_count(), 2);
     let names = kinematics.independents(rt.alloc())?;
     let names = names.as_slice();

@@ -2,7 +2,7 @@
 
 ghost use Rattle.std.specs.Prelude.{◌≡◌};
 ghost use Rattle.kinematics_schema.specs.Sound.{IsSound};
-ghost use Rattle.job_point.specs.Point as spec;
+ghost use Rattle.kinematics_schema.specs.Parameters as spec;
 
 use crate::outlines::{FAMILIES, KINEMATICS, tree_of, whole};
 use field_word::Modulus;
