@@ -5,10 +5,10 @@
     tools/table.py TABLE --csv | --json | --form    the whole table
     tools/table.py TABLE --compare OTHER            the masters of two tables of one job, at two points
 
-TABLE is a file, or - for the standard input. With --job a master is marked that is no seed of the job in this folder, or
-has no seed with a greater r or s beside it: it may be listed for want of equations. A row of --csv is an integral, a
-coefficient and a master; coefficients of --json are texts, since many readers round numbers above 2^53. It ends with 1
-where the masters of two tables differ, and with 2 where a text is no table.
+TABLE is a file, or - for the standard input. With --job, which needs PyYAML, a master is marked that is no seed of the job
+in this folder, or has no seed with a greater r or s beside it: it may be listed for want of equations. A row of --csv is an
+integral, a coefficient and a master; coefficients of --json are texts, since many readers round numbers above 2^53. It ends
+with 1 where the masters of two tables differ, and with 2 where a text is no table.
 """
 import argparse
 import collections
@@ -18,6 +18,8 @@ import json
 import pathlib
 import re
 import sys
+
+import job
 
 NUMBER = "(?:0|-?[1-9][0-9]*)"
 INTEGRAL = rf"([A-Za-z][A-Za-z0-9_]{{0,31}})\[({NUMBER}(?:,{NUMBER})*)\]"
@@ -97,7 +99,8 @@ def read_table(text):
     masters = [read_integral(words, line) for line, words in enumerate(lines[end + 1 :], end + 2)]
     count = int(lines[end].split()[1])
     if len(masters) < count or rest:
-        raise NoTable(len(lines) + 1, "a line of a master is missing or has no end" if len(masters) < count else "no table's line")
+        what = "text behind the table" if len(masters) >= count else "a master is missing or its line has no end"
+        raise NoTable(len(lines) + 1, what)
     if len(masters) > count or len(set(masters)) < count:
         raise NoTable(end + 1, f"{len(masters)} lines with {len(set(masters))} masters behind it")
     check_widths(integrals)
@@ -159,7 +162,10 @@ def summary(forms, masters, mark):
     lines = [f"{len(forms)} integrals, {sum(not terms for terms in forms.values())} of them 0"]
     lines += [f"{name} sector {sector}: {count}" for (name, sector), count in counts.items()]
     lines.append(f"masters {len(masters)}")
-    return "\n".join(lines + [f"{text_of(x)}  {mark(x)}".rstrip() for x in masters]) + "\n"
+    lines += [f"{text_of(x)}  {mark(x)}".rstrip() for x in masters]
+    if any(map(mark, masters)):
+        lines.append("A marked master may be listed for want of equations: raise r, s or d under reduce.")
+    return "\n".join(lines) + "\n"
 
 
 def compared(one, other):
@@ -208,11 +214,7 @@ def main():
     if words.csv or words.json or words.form:
         sys.stdout.write(as_csv(forms) if words.csv else as_json(forms, masters) if words.json else as_form(forms))
         return
-    mark = lambda master: ""
-    if words.job:
-        import size
-        mark = size.load(words.job).mark
-    sys.stdout.write(summary(forms, masters, mark))
+    sys.stdout.write(summary(forms, masters, job.load(words.job).mark if words.job else lambda master: ""))
 
 
 if __name__ == "__main__":
