@@ -1,7 +1,7 @@
 """Reads the job of a folder for the tools beside the program, and counts its seeds by binomials.
 
-It finds no faults of the files, which the program names, and needs PyYAML. A set of sectors is a number that has the bit 2^S
-for each sector S.
+It finds no faults of the files, which the program names, and needs PyYAML. A set of sectors is a number that has the
+bit 2^S for each sector S.
 """
 import functools
 import itertools

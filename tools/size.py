@@ -4,9 +4,9 @@
     tools/size.py FOLDER [JOBFILE]          JOBFILE is jobs.yaml where none is given
 
 For each item under `reduce` and each of its families it shows the seeds, the equations and the bound on terms of
-docs/FORMATS.md; then the job's sums, in which a seed of several items counts once, beside the limits; then what would stay
-with a bound `d` or with one zero sector more. Seeds are counted by binomials, so that a job far above the limits is answered
-too. It finds no faults of the files, which the program names, and needs PyYAML.
+docs/FORMATS.md; then the job's sums, in which a seed of several items counts once, beside the limits; then what would
+stay with a bound `d` or with one zero sector more. Seeds are counted by binomials, so that a job far above the limits
+is answered too. It finds no faults of the files, which the program names, and needs PyYAML.
 """
 import itertools
 import pathlib

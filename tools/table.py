@@ -5,10 +5,10 @@
     tools/table.py TABLE --csv | --json | --form    the whole table
     tools/table.py TABLE --compare OTHER            the masters of two tables of one job, at two points
 
-TABLE is a file, or - for the standard input. With --job, which needs PyYAML, a master is marked that is no seed of the job
-in this folder, or has no seed with a greater r or s beside it: it may be listed for want of equations. A row of --csv is an
-integral, a coefficient and a master; coefficients of --json are texts, since many readers round numbers above 2^53. It ends
-with 1 where the masters of two tables differ, and with 2 where a text is no table.
+TABLE is a file, or - for the standard input. With --job, which needs PyYAML, a master is marked that is no seed of the
+job in this folder, or has no seed with a greater r or s beside it: it may be listed for want of equations. A row of
+--csv is an integral, a coefficient and a master; coefficients of --json are texts, since many readers round numbers
+above 2^53. It ends with 1 where the masters of two tables differ, and with 2 where a text is no table.
 """
 import argparse
 import collections
