@@ -4,13 +4,25 @@ It finds no faults of the files, which the program names, and needs PyYAML. A se
 bit 2^S for each sector S.
 """
 import functools
-import itertools
 import math
 import pathlib
 import re
 import sys
 
 MOST_WIDTH, MOST_BOUND = 20, 100
+
+
+def count_bits(sectors):
+    return bin(sectors).count("1")
+
+
+@functools.lru_cache(None)
+def sectors_with(bit, width):
+    """The sectors that have this bit."""
+    found = ((1 << (1 << bit)) - 1) << (1 << bit)
+    for higher in range(bit + 1, width):
+        found |= found << (1 << higher)
+    return found
 
 
 def below(sectors, width):
@@ -21,10 +33,7 @@ def below(sectors, width):
             raise ValueError(f"no sector {sector} of {width} denominators")
         found |= 1 << sector
     for bit in range(width):
-        with_bit = ((1 << (1 << bit)) - 1) << (1 << bit)
-        for higher in range(bit + 1, width):
-            with_bit |= with_bit << (1 << higher)
-        found |= (found & with_bit) >> (1 << bit)
+        found |= (found & sectors_with(bit, width)) >> (1 << bit)
     return found
 
 
@@ -67,30 +76,32 @@ def sectors_of(items):
     return functools.reduce(lambda left, item: left | item.sectors, items, 0)
 
 
-def in_sector(width, t, items):
-    """How many integrals of a sector with t denominators one of the items holds.
+def in_layer(width, t, parts):
+    """How many integrals with t denominators the parts hold, each counted once.
 
-    For each number of dots these are the ways to share them, times those to share numerators up to the greatest s."""
-    total = 0
-    for dots in range(MOST_BOUND + 1):
-        bounds = [item.s for item in items if item.holds(t, dots, 0)]
-        if bounds:
-            total += math.comb(dots + t - 1, t - 1) * math.comb(max(bounds) + width - t, width - t)
+    A part is a bound on dots, a bound on s, and sectors. In each sector a number of dots comes with the greatest s that
+    a part gives it."""
+    total, before = 0, -1
+    for dots in sorted({part[0] for part in parts if part[0] >= 0}):
+        seen = numerators = 0
+        for _, s, sectors in sorted((part for part in parts if part[0] >= dots), key=lambda part: -part[1]):
+            numerators += count_bits(sectors & ~seen) * math.comb(s + width - t, s)
+            seen |= sectors
+        total += numerators * (math.comb(dots + t, t) - math.comb(before + t, t))
+        before = dots
     return total
 
 
 def seeds_of(family, items, within=-1):
     """How many integrals of the family the items hold in these sectors, each counted once."""
-    cells = [(sectors_of(items) & within, [])]
+    merged = {}
     for item in items:
-        cells = [(part & item.sectors, inside + [item]) for part, inside in cells] + [
-            (part & ~item.sectors, inside) for part, inside in cells
-        ]
-        cells = [cell for cell in cells if cell[0]]
+        bounds = item.r, item.dots, item.s
+        merged[bounds] = merged.get(bounds, 0) | item.sectors & within
     total = 0
-    for (part, inside), (t, layer) in itertools.product(cells, enumerate(layers(family.width))):
-        count = bin(part & layer).count("1")
-        total += count * in_sector(family.width, t, inside) if count else 0
+    for t, layer in enumerate(layers(family.width)):
+        parts = [(min(r - t, dots), s, sectors & layer) for (r, dots, s), sectors in merged.items()]
+        total += in_layer(family.width, t, [part for part in parts if part[2]])
     return total
 
 

@@ -21,7 +21,7 @@ MOST_ROWS, MOST_TRIED = 8, 256
 
 
 def row(name, counts):
-    return f"{name:30}" + "".join(f"{count:>14}" for count in counts)
+    return f"{name:30}" + "".join(f" {count:>14}" for count in counts)
 
 
 def with_less_dots(job, whole):
