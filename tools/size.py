@@ -13,7 +13,7 @@ import pathlib
 import re
 import sys
 
-import job as jobs
+import job_seeds
 
 TOP = pathlib.Path(__file__).resolve().parent.parent
 MOST_INTEGRALS, MOST_TERMS = 131072, 16777216
@@ -27,7 +27,7 @@ def row(name, counts):
 def with_less_dots(job, whole):
     rows = []
     for most in range(MOST_ROWS):
-        counts = job.total([jobs.Item(item.family, item.entry, most) for item in job.reduce])
+        counts = job.total([job_seeds.Item(item.family, item.entry, most) for item in job.reduce])
         if counts == whole:
             break
         rows.append(row(f"with d: {most}", counts))
@@ -39,14 +39,14 @@ def with_more_zeros(job, whole):
     found = []
     for family in job.families.values():
         items = [item for item in job.reduce if item.family is family]
-        seeded = jobs.sectors_of(items)
+        seeded = job_seeds.sectors_of(items)
         tops = {int(sector) for item in items for sector in item.entry["sectors"]}
         most = min(family.loops + 1, family.width)
         bits = itertools.chain(*(itertools.combinations(range(family.width), t) for t in range(most, 0, -1)))
         sectors = (sum(1 << bit for bit in some) for some in bits)
         tried = (sector for sector in sectors if seeded >> sector & 1 and sector not in tops)
         for sector in itertools.islice(tried, MOST_TRIED):
-            saved = jobs.seeds_of(family, items, jobs.below([sector], family.width))
+            saved = job_seeds.seeds_of(family, items, job_seeds.below([sector], family.width))
             found.append((-saved, family.name, sector, (saved, saved * family.rows, saved * family.terms)))
     best = sorted(found)[:MOST_ROWS]
     return [row(f"with {name} {sector} zero", [a - b for a, b in zip(whole, less)]) for _, name, sector, less in best]
@@ -92,5 +92,5 @@ def report(job):
 
 if __name__ == "__main__":
     if len(sys.argv) not in (2, 3):
-        jobs.refuse("usage: tools/size.py FOLDER [JOBFILE]")
-    sys.stdout.write(report(jobs.load(*sys.argv[1:])))
+        job_seeds.refuse("usage: tools/size.py FOLDER [JOBFILE]")
+    sys.stdout.write(report(job_seeds.load(*sys.argv[1:])))

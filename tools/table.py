@@ -19,7 +19,7 @@ import pathlib
 import re
 import sys
 
-import job
+import job_seeds
 
 NUMBER = "(?:0|-?[1-9][0-9]*)"
 INTEGRAL = rf"([A-Za-z][A-Za-z0-9_]{{0,31}})\[({NUMBER}(?:,{NUMBER})*)\]"
@@ -214,7 +214,7 @@ def main():
     if words.csv or words.json or words.form:
         sys.stdout.write(as_csv(forms) if words.csv else as_json(forms, masters) if words.json else as_form(forms))
         return
-    sys.stdout.write(summary(forms, masters, job.load(words.job).mark if words.job else lambda master: ""))
+    sys.stdout.write(summary(forms, masters, job_seeds.load(words.job).mark if words.job else lambda master: ""))
 
 
 if __name__ == "__main__":

@@ -18,7 +18,7 @@ PROGRAM = TOP / "crates/kira/out/kira"
 EXAMPLES = TOP / "examples"
 sys.dont_write_bytecode = True
 
-import job as jobs
+import job_seeds
 import size
 import table
 
@@ -176,11 +176,11 @@ class Sizes(unittest.TestCase):
             (folder / "more").write_text(listed or "")
             task = f"reduce: [{reduce}], select_integrals: {select}, numeric_point: {{}}"
             (folder / "jobs.yaml").write_text(f"jobs: [{{reduce_sectors: {{{task}}}}}]\n")
-            return jobs.load(folder)
+            return job_seeds.load(folder)
 
     def resized(self, name, r, s):
         """The job of an example with other bounds under `reduce`."""
-        job = jobs.load(EXAMPLES / name)
+        job = job_seeds.load(EXAMPLES / name)
         return job, job.items([{**job.reduce[0].entry, "r": r, "s": s}])
 
     def test_counts_what_the_tests_of_plans_state(self):
@@ -213,10 +213,10 @@ class Sizes(unittest.TestCase):
     def test_counts_the_lines_of_the_expected_tables(self):
         for file in EXAMPLES.glob("*/expected"):
             lines = file.read_text().split("masters ")[0].count("\n")
-            self.assertEqual(jobs.load(file.parent).selected(), lines, file)
+            self.assertEqual(job_seeds.load(file.parent).selected(), lines, file)
 
     def test_counts_what_an_enumeration_finds(self):
-        job = jobs.load(EXAMPLES / "double_box_planar")
+        job = job_seeds.load(EXAMPLES / "double_box_planar")
         zero = [47, 55, 59, 62, 71, 75, 86, 105, 116, 120]
         specs = [([127], 7, 1, 9), ([127], 7, 1, 1), ([127], 8, 1, 0), ([31, 110], 5, 2, 9), ([76], 6, 2, 2)]
         for chosen in *([spec] for spec in specs), specs[1:], specs[2:]:
@@ -234,7 +234,7 @@ class Sizes(unittest.TestCase):
         self.assertEqual(rows["limit"], ["131072", "16777216"])
 
     def test_marks_masters_at_the_edge_of_the_seeds(self):
-        mark = jobs.load(EXAMPLES / "sunrise_equal_masses").mark
+        mark = job_seeds.load(EXAMPLES / "sunrise_equal_masses").mark
         marks = [(x[1], mark(x)) for x in table_of("sunrise_equal_masses")[1] if mark(x)]
         self.assertEqual(marks, [((1, 1, 1, -2, 0), "at the edge of s")])
         self.assertEqual(mark(("sun", (1, 1, 3, 0, 0))), "at the edge of r")
