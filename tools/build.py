@@ -32,7 +32,7 @@ STAMP = OUT / "run.stamp"
 PARTS = ("src", "specs", "proofs")
 
 # The minutes of a first build: of its longest chain of crates, and of all its crates on one processor.
-# Measured: 20 minutes on 4 processors.
+# Measured: 18.5 minutes on 4 processors.
 FIRST_BUILD = {"chain": 15, "work": 65}
 # The memory that a check may take, in bytes, and the most processors that one check makes use of.
 MEMORY = 4 << 30
